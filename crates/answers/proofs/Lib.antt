@@ -1,0 +1,10 @@
+pub mod Cases
+pub mod Values
+pub mod Front
+pub mod Operands
+pub mod Slots
+pub mod Arrangements
+pub mod ReadBack
+pub mod Meanings
+pub mod Operations
+pub mod Accepted

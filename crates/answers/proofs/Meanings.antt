@@ -1,0 +1,429 @@
+-- What the slots of a form hold of a record's operands is what the record means, form by form.
+-- Assumes nothing.
+use mathlib.Core.Path.{_≡_, refl, sym, _∙_, subst}
+use Prim.Native.Nat.{ℕ, _+_, _*_, _%_}
+use native.Mathlib.Omega.{arith}
+use mathlib.Core.Bool.{Bool, true, false}
+use mathlib.Core.Logic.{_⊎_, inl, inr, ⊎-elim}
+use mathlib.Core.List.{List, [], _∷_, List·Memᴰ, List·Memᴰ·cases-cons, List·Memᴰ·not-nil}
+use lib.Dec.{eqb, ltb}
+use borrow.Author.Tests.{ltb-true, ltb-false}
+use Rattle.mrc_compiler.specs.declared.ast.Segment.{Segment}
+use Rattle.mrc_compiler.specs.declared.encoder.JumpKind.{JumpKind}
+use Rattle.mrc_compiler.specs.declared.encoder.JumpKind.the-variants as J
+use Rattle.mrc_compiler.specs.declared.encoder.OperandData.{OperandData}
+use Rattle.mrc_compiler.specs.declared.encoder.OperandKind.the-variants as K
+use Rattle.mrc_compiler.specs.declared.encoder.OperandSize.{OperandSize}
+use Rattle.mrc_compiler.specs.declared.encoder.OperandSize.the-variants as S
+use Rattle.mrc_compiler.specs.declared.operations.Operation.{Operation}
+use Rattle.mrc_compiler.specs.declared.operations.Operation.the-variants as Op
+use Rattle.mrc_compiler.specs.Choose.{pick, both, byJump}
+use Rattle.mrc_compiler.specs.Operations.{numberOf}
+use Rattle.x86.specs.declared.Operand.{Operand}
+use Rattle.x86.specs.declared.Operand.the-variants as O
+use Rattle.x86.specs.Instructions.{instruction, canonical}
+use Rattle.x86.specs.Forms.{byte, word, Slot, rm, rm-near, reg, acc, low3, CL, DX, one, ib, iw, ib-sx, cw, ptr, Form}
+use Rattle.x86.specs.Forms as F
+use Rattle.x86.specs.Reading.{widthOf}
+use Rattle.answers.specs.Records.{sameSize, statedOf}
+use Rattle.answers.specs.Groups.{Group}
+use Rattle.answers.specs.Groups as G
+use Rattle.answers.specs.Meaning.{counted, port, count, nearTarget, farTarget, transfer, ofTwo, meant}
+use Rattle.answers.specs.Choice.{takes, sizeIn}
+use Rattle.answers.proofs.Values.{false-true, both-true}
+use Rattle.answers.proofs.Operands.{imm-taken, reg-taken, rm-taken}
+use Rattle.answers.proofs.Slots.{holds}
+use Rattle.answers.proofs.Arrangements.{bare, adjust, branch, address-first, address-second, bx-al, rm-digit, rm-reg, reg-rm, low3-first, low3-second, segment}
+use Rattle.answers.proofs.ReadBack.{ArrangedForm}
+
+-- ---- sizes
+same-size : (w z : OperandSize) → sameSize w z ≡ true → z ≡ w
+same-size S.Unspecified S.Unspecified e = refl
+same-size S.Unspecified S.Byte e = false-true e
+same-size S.Unspecified S.Word e = false-true e
+same-size S.Byte S.Unspecified e = false-true e
+same-size S.Byte S.Byte e = refl
+same-size S.Byte S.Word e = false-true e
+same-size S.Word S.Unspecified e = false-true e
+same-size S.Word S.Byte e = false-true e
+same-size S.Word S.Word e = refl
+
+-- a slot that takes operands of the size w only
+record Sized (s : Slot) (w : OperandSize) : Type 0 where
+  pub sized : (z : OperandSize) (o : OperandData) → takes s z o ≡ true → z ≡ w
+
+rm-sized : {w : OperandSize} → Sized (rm w) w
+rm-sized {w} = record { sized = λ z o e. same-size w z (rm-taken (o .kind) (sameSize w z) e .1) }
+
+reg-sized : {w : OperandSize} → Sized (reg w) w
+reg-sized {w} = record { sized = λ z o e. same-size w z (reg-taken (o .kind) (sameSize w z) e .1) }
+
+low3-sized : {w : OperandSize} → Sized (low3 w) w
+low3-sized {w} = record { sized = λ z o e. same-size w z (reg-taken (o .kind) (sameSize w z) e .1) }
+
+acc-sized : {w : OperandSize} → Sized (acc w) w
+acc-sized {w} = record { sized = λ z o e. same-size w z (both-true (sameSize w z) (eqb (o .rm) 0) (reg-taken (o .kind) _ e .1) .0) }
+
+-- ---- what a slot holds of an operand that it takes
+record Holds (s : Slot) (q : OperandData → Operand) : Type 0 where
+  pub are : (z : OperandSize) (o : OperandData) → takes s z o ≡ true → holds s o ≡ q o
+
+-- as the slot says
+plain : {s : Slot} → Holds s (holds s)
+plain = record { are = λ z o e. refl }
+
+ib-byte : Holds ib (counted byte)
+unfolding counted
+ib-byte = record { are = λ z o e. rw (imm-taken (o .kind) true e .0) }
+
+iw-word : Holds iw (counted word)
+unfolding counted
+iw-word = record { are = λ z o e. rw (imm-taken (o .kind) true e .0) }
+
+sx-word : Holds ib-sx (counted word)
+unfolding counted
+sx-word = record { are = λ z o e. rw (imm-taken (o .kind) _ e .0) }
+
+ib-port : Holds ib port
+ib-port = record { are = λ z o e. rw (imm-taken (o .kind) true e .0) }
+
+DX-port : Holds DX port
+DX-port = record { are = λ z o e. rw (reg-taken (o .kind) _ e .0) }
+
+one-count : Holds one count
+one-count = record { are = λ z o e. rw (imm-taken (o .kind) _ e .0) }
+
+CL-count : Holds CL count
+CL-count = record { are = λ z o e. rw (reg-taken (o .kind) _ e .0) }
+
+-- ---- a form of an operation of group g: where its operands stand, and that it means what the record means
+pub record Leaf (g : Group) (op : Operation) (f : Form) : Type 0 where
+  pub arranged : ArrangedForm f
+  pub operation-is : f .operation ≡ op
+  pub means : (a b : OperandData) → takes (f .first) (sizeIn g a b a) a ≡ true → takes (f .second) (sizeIn g a b b) b ≡ true
+      → canonical op (widthOf f) (holds (f .first) a) (holds (f .second) b) ≡ meant g op a b
+
+-- the slots hold what is meant
+fixed : {g : Group} {f : Form} {q r : OperandData → Operand} → ArrangedForm f → Holds (f .first) q → Holds (f .second) r
+    → ((a b : OperandData) → canonical (f .operation) (widthOf f) (q a) (r b) ≡ meant g (f .operation) a b) → Leaf g (f .operation) f
+fixed x p q m = record { arranged = x; operation-is = refl; means = λ a b h k. rw (p .are _ a h, q .are _ b k) (m a b) }
+
+-- two operands of the one width that is stated
+record OfTwo (g : Group) : Type 0 where
+  pub size : (a b o : OperandData) → sizeIn g a b o ≡ statedOf (a .size) (b .size)
+  pub meaning : (op : Operation) (a b : OperandData) → ofTwo op a b ≡ meant g op a b
+
+two-at : (f : Form) (z : OperandSize) → Holds (f .first) (counted (widthOf f)) → Holds (f .second) (counted (widthOf f)) → z ≡ widthOf f
+    → (a b : OperandData)
+    → takes (f .first) z a ≡ true → takes (f .second) z b ≡ true
+    → canonical (f .operation) (widthOf f) (holds (f .first) a) (holds (f .second) b) ≡ canonical (f .operation) z (counted z a) (counted z b)
+two-at f z p q e a b h k = rw (p .are z a h, q .are z b k, e)
+
+-- the first slot says the width
+two : {g : Group} {f : Form} → OfTwo g → ArrangedForm f → Sized (f .first) (widthOf f) → Holds (f .first) (counted (widthOf f))
+    → Holds (f .second) (counted (widthOf f))
+    → Leaf g (f .operation) f
+two {f = f} t x l p q = record {
+  arranged = x;
+  operation-is = refl;
+  means = λ a b h k.
+      let z = statedOf (a .size) (b .size) in
+      two-at f z p q (l .sized z a (rw (t .size a b a) at h)) a b (rw (t .size a b a) at h) (rw (t .size a b b) at k) ∙ t .meaning (f .operation) a b;
+}
+
+-- the second slot says it
+two-by-second : {g : Group} {f : Form} → OfTwo g → ArrangedForm f → Sized (f .second) (widthOf f) → Holds (f .first) (counted (widthOf f))
+    → Holds (f .second) (counted (widthOf f))
+    → Leaf g (f .operation) f
+two-by-second {f = f} t x l p q = record {
+  arranged = x;
+  operation-is = refl;
+  means = λ a b h k.
+      let z = statedOf (a .size) (b .size) in
+      two-at f z p q (l .sized z b (rw (t .size a b b) at k)) a b (rw (t .size a b a) at h) (rw (t .size a b b) at k) ∙ t .meaning (f .operation) a b;
+}
+
+-- one operand of its own size, and another
+record OfFirst (g : Group) (r : OperandData → Operand) : Type 0 where
+  pub size : (a b o : OperandData) → sizeIn g a b o ≡ o .size
+  pub meaning : (op : Operation) (a b : OperandData) → canonical op (a .size) (counted (a .size) a) (r b) ≡ meant g op a b
+
+own : {g : Group} {f : Form} {r : OperandData → Operand} → OfFirst g r → ArrangedForm f → Sized (f .first) (widthOf f)
+    → Holds (f .first) (counted (widthOf f)) → Holds (f .second) r
+    → Leaf g (f .operation) f
+own {f = f} t x l p q = record {
+  arranged = x;
+  operation-is = refl;
+  means = λ a b h k.
+      rw (p .are _ a h, q .are _ b k, ← (l .sized (a .size) a (rw (t .size a b a) at h))) (t .meaning (f .operation) a b);
+}
+
+pub data All (P : Form → Type 0) : List Form → Type 0 where
+  end : All P []
+  _&_ : {f : Form} {fs : List Form} → P f → All P fs → All P (f ∷ fs)
+
+infixr 5 _&_
+-- what holds of all holds of each
+pub all-at : {P : Form → Type 0} {fs : List Form} → All P fs → {f : Form} → List·Memᴰ f fs → P f
+all-at end m = absurd (List·Memᴰ·not-nil m)
+all-at {P} (p & ps) m = ⊎-elim (λ e. subst P (sym e) p) (λ l. all-at ps l) (List·Memᴰ·cases-cons m)
+
+-- ---- the blocks of the list
+of-arithmetic : OfTwo G.arithmetic
+unfolding meant
+of-arithmetic = record { size = λ a b o. refl; meaning = λ op a b. refl }
+
+pub arithmetic-leaves : (b : ℕ) (op : Operation) → All (Leaf G.arithmetic op) (F.arithmetic b op)
+arithmetic-leaves b op =
+    two of-arithmetic rm-reg rm-sized plain plain
+    & two of-arithmetic rm-reg rm-sized plain plain
+    & two of-arithmetic reg-rm reg-sized plain plain
+    & two of-arithmetic reg-rm reg-sized plain plain
+    & two of-arithmetic rm-digit rm-sized plain sx-word
+    & two of-arithmetic bare acc-sized plain ib-byte
+    & two of-arithmetic bare acc-sized plain iw-word
+    & two of-arithmetic rm-digit rm-sized plain ib-byte
+    & two of-arithmetic rm-digit rm-sized plain iw-word
+    & end
+
+of-unary : OfFirst G.unary (λ o. O.None)
+unfolding meant
+of-unary = record { size = λ a b o. refl; meaning = λ op a b. refl }
+
+pub unary-leaves : (n : ℕ) (op : Operation) → All (Leaf G.unary op) (F.unary n op)
+unary-leaves n op = own of-unary rm-digit rm-sized plain plain & own of-unary rm-digit rm-sized plain plain & end
+
+of-incDec : OfFirst G.incDec (λ o. O.None)
+unfolding meant
+of-incDec = record { size = λ a b o. refl; meaning = λ op a b. refl }
+
+pub incDec-leaves : (n : ℕ) (op : Operation) → All (Leaf G.incDec op) (F.incDec n op)
+incDec-leaves n op =
+    let e : (0x40 + 8 * n) % 8 ≡ 0 = omega arith in
+    own of-incDec (low3-first e) low3-sized plain plain
+    & own of-incDec rm-digit rm-sized plain plain
+    & own of-incDec rm-digit rm-sized plain plain
+    & end
+
+of-move : OfTwo G.move
+unfolding meant
+of-move = record { size = λ a b o. refl; meaning = λ op a b. refl }
+
+pub move-leaves : (op : Operation) → All (Leaf G.move op) (F.move op)
+move-leaves op =
+    two of-move address-second acc-sized plain plain
+    & two of-move address-second acc-sized plain plain
+    & two-by-second of-move address-first acc-sized plain plain
+    & two-by-second of-move address-first acc-sized plain plain
+    & two of-move rm-reg rm-sized plain plain
+    & two of-move rm-reg rm-sized plain plain
+    & two of-move reg-rm reg-sized plain plain
+    & two of-move reg-rm reg-sized plain plain
+    & two of-move rm-reg rm-sized plain plain
+    & two-by-second of-move reg-rm rm-sized plain plain
+    & two of-move (low3-first refl) low3-sized plain ib-byte
+    & two of-move (low3-first refl) low3-sized plain iw-word
+    & two of-move rm-digit rm-sized plain ib-byte
+    & two of-move rm-digit rm-sized plain iw-word
+    & end
+
+of-exchange : OfTwo G.exchange
+unfolding meant
+of-exchange = record { size = λ a b o. refl; meaning = λ op a b. refl }
+
+pub exchange-leaves : (op : Operation) → All (Leaf G.exchange op) (F.exchange op)
+exchange-leaves op =
+    two of-exchange (low3-second refl) acc-sized plain plain
+    & two of-exchange reg-rm reg-sized plain plain
+    & two of-exchange reg-rm reg-sized plain plain
+    & end
+
+of-test : OfTwo G.test
+unfolding meant
+of-test = record { size = λ a b o. refl; meaning = λ op a b. refl }
+
+pub test-leaves : (op : Operation) → All (Leaf G.test op) (F.test op)
+test-leaves op = two of-test bare acc-sized plain ib-byte & end
+
+pub push-leaves : (op : Operation) → All (Leaf G.push op) (F.push op)
+unfolding meant
+push-leaves op = fixed (low3-first refl) plain plain (λ a b. refl) & fixed (segment {o = 0x06} (omega arith)) plain plain (λ a b. refl) & end
+
+pub pop-leaves : (op : Operation) → All (Leaf G.pop op) (F.pop op)
+unfolding meant
+pop-leaves op = fixed (low3-first refl) plain plain (λ a b. refl) & fixed (segment {o = 0x07} (omega arith)) plain plain (λ a b. refl) & end
+
+pub load-leaves : (c : ℕ) (op : Operation) → All (Leaf G.load op) (F.load c op)
+unfolding meant
+load-leaves c op = fixed reg-rm plain plain (λ a b. refl) & end
+
+of-shift : OfFirst G.shift count
+unfolding meant
+of-shift = record { size = λ a b o. refl; meaning = λ op a b. refl }
+
+pub shift-leaves : (n : ℕ) (op : Operation) → All (Leaf G.shift op) (F.shift n op)
+shift-leaves n op =
+    own of-shift rm-digit rm-sized plain one-count
+    & own of-shift rm-digit rm-sized plain one-count
+    & own of-shift rm-digit rm-sized plain CL-count
+    & own of-shift rm-digit rm-sized plain CL-count
+    & end
+
+-- CALL and JMP: near, far, through a register or memory
+near-kind : {A : Type 0} (j : JumpKind) (n f : A) → byJump j true false true false ≡ true → n ≡ byJump j n f n n
+near-kind J.None n f e = refl
+near-kind J.Far n f e = false-true e
+near-kind J.Near n f e = refl
+near-kind J.Short n f e = false-true e
+
+far-kind : {A : Type 0} (j : JumpKind) (n f : A) → byJump j false true false false ≡ true → f ≡ byJump j n f n n
+far-kind J.None n f e = false-true e
+far-kind J.Far n f e = refl
+far-kind J.Near n f e = false-true e
+far-kind J.Short n f e = false-true e
+
+near-goes : (op : Operation) (z : OperandSize) (o : OperandData) → takes cw z o ≡ true
+    → canonical op S.Unspecified (nearTarget o) O.None ≡ transfer op o
+near-goes op z o e = let k = imm-taken (o .kind) _ e in rw (k .0) (near-kind (o .«jmp_kind») _ _ (k .1))
+
+far-goes : (op : Operation) (z : OperandSize) (o : OperandData) → takes ptr z o ≡ true
+    → canonical op S.Unspecified (farTarget o) O.None ≡ transfer op o
+far-goes op z o e = let k = imm-taken (o .kind) _ e in rw (k .0) (far-kind (o .«jmp_kind») _ _ (k .1))
+
+through-goes : (op : Operation) (z : OperandSize) (o : OperandData) → takes rm-near z o ≡ true
+    → canonical op S.Word (counted S.Word o) O.None ≡ transfer op o
+through-goes op z o e = ⊎-elim (λ k. by-kind (inl k)) (λ k. by-kind (inr k)) (rm-taken (o .kind) _ e .0)
+  where
+    by-kind : (o .kind ≡ K.Reg) ⊎ (o .kind ≡ K.Mem) → canonical op S.Word (counted S.Word o) O.None ≡ transfer op o
+    by-kind (inl k) = rw k
+    by-kind (inr k) = rw k
+
+pub call-leaves : (op : Operation) → All (Leaf G.call op) (F.call op)
+unfolding meant
+call-leaves op =
+    record { arranged = branch; operation-is = refl; means = λ a b h k. near-goes op (a .size) a h }
+    & record { arranged = rm-digit; operation-is = refl; means = λ a b h k. through-goes op (a .size) a h }
+    & end
+
+pub jump-leaves : (op : Operation) → All (Leaf G.jump op) (F.jump op)
+unfolding meant
+jump-leaves op =
+    record { arranged = branch; operation-is = refl; means = λ a b h k. near-goes op (a .size) a h }
+    & record { arranged = bare; operation-is = refl; means = λ a b h k. far-goes op (a .size) a h }
+    & record { arranged = rm-digit; operation-is = refl; means = λ a b h k. through-goes op (a .size) a h }
+    & end
+
+pub conditional-leaves : (c : ℕ) (op : Operation) → All (Leaf G.conditional op) (F.short c op ∷ [])
+unfolding meant
+conditional-leaves c op = fixed branch plain plain (λ a b. refl) & end
+
+pub loop-leaves : (c : ℕ) (op : Operation) → All (Leaf G.loop op) (F.short c op ∷ [])
+unfolding meant
+loop-leaves c op = fixed branch plain plain (λ a b. refl) & end
+
+pub interrupt-leaves : (op : Operation) → All (Leaf G.interrupt op) (F.interrupt op)
+unfolding meant
+interrupt-leaves op = fixed bare plain plain (λ a b. refl) & end
+
+pub translate-leaves : (op : Operation) → All (Leaf G.translate op) (F.translate op)
+unfolding meant
+translate-leaves op = fixed bx-al plain plain (λ a b. refl) & end
+
+of-input : OfFirst G.input port
+unfolding meant
+of-input = record { size = λ a b o. refl; meaning = λ op a b. refl }
+
+pub input-leaves : (op : Operation) → All (Leaf G.input op) (F.input op)
+input-leaves op =
+    own of-input bare acc-sized plain ib-port
+    & own of-input bare acc-sized plain ib-port
+    & own of-input bare acc-sized plain DX-port
+    & own of-input bare acc-sized plain DX-port
+    & end
+
+-- OUT: of the second operand's size
+out : (op : Operation) (w : OperandSize) (s : Slot) → Holds s port → (a b : OperandData) → takes s (a .size) a ≡ true
+    → takes (acc w) (b .size) b ≡ true
+    → canonical op w (holds s a) (counted w b) ≡ canonical op (b .size) (port a) (counted (b .size) b)
+out op w s p a b h k = let e : b .size ≡ w = acc-sized {w = w} .sized (b .size) b k in rw (p .are _ a h, e)
+
+pub output-leaves : (op : Operation) → All (Leaf G.output op) (F.output op)
+unfolding meant
+output-leaves op =
+    record { arranged = bare; operation-is = refl; means = out op byte ib ib-port }
+    & record { arranged = bare; operation-is = refl; means = out op word ib ib-port }
+    & record { arranged = bare; operation-is = refl; means = out op byte DX DX-port }
+    & record { arranged = bare; operation-is = refl; means = out op word DX DX-port }
+    & end
+
+pub adjust-leaves : (c : ℕ) (op : Operation) → All (Leaf G.plain op) (F.adjust c op)
+unfolding meant
+adjust-leaves c op = fixed adjust plain plain (λ a b. refl) & end
+
+pub plain-leaves : (c : ℕ) (op : Operation) → All (Leaf G.plain op) (F.single c op ∷ [])
+unfolding meant
+plain-leaves c op = fixed bare plain plain (λ a b. refl) & end
+
+pub return-leaves : (c : ℕ) (op : Operation) → All (Leaf G.return op) (F.single c op ∷ [])
+unfolding meant
+return-leaves c op = fixed bare plain plain (λ a b. refl) & end
+
+-- ---- XCHG with the operands the other way round
+-- of two registers it makes no difference which stands first
+pick-order : {A : Type 0} (m n : ℕ) (x y : A) (i j : Bool) → (m ≡ n → x ≡ y) → ltb n m ≡ i → ltb m n ≡ j → pick i y x ≡ pick j x y
+pick-order m n x y true true f e g = absurd (omega (arith, ltb-true n m e, ltb-true m n g))
+pick-order m n x y true false f e g = refl
+pick-order m n x y false true f e g = refl
+pick-order m n x y false false f e g = f (omega (arith, ltb-false n m e, ltb-false m n g))
+
+both-swap : (a b : Bool) → both a b ≡ both b a
+both-swap true true = refl
+both-swap true false = refl
+both-swap false true = refl
+both-swap false false = refl
+
+registers-swap : (z : OperandSize) (m n : ℕ) → canonical Op.XCHG z (O.Register m) (O.Register n) ≡ canonical Op.XCHG z (O.Register n) (O.Register m)
+unfolding canonical numberOf
+registers-swap z m n =
+    let a = O.Register m in
+    let b = O.Register n in
+    rw (both-swap (eqb m 0) (eqb n 0), pick-order m n (instruction Op.XCHG z a b) (instruction Op.XCHG z b a) (ltb n m) (ltb m n) (λ e. rw e) refl refl)
+
+memory-swap : (z : OperandSize) (m v d : ℕ) (g : Segment)
+    → canonical Op.XCHG z (O.Register m) (O.Memory v d g) ≡ canonical Op.XCHG z (O.Memory v d g) (O.Register m)
+unfolding canonical numberOf
+memory-swap z m v d g = refl
+
+swap : (z : OperandSize) (a b : OperandData) → b .kind ≡ K.Reg → (a .kind ≡ K.Reg) ⊎ (a .kind ≡ K.Mem)
+    → canonical Op.XCHG z (counted z b) (counted z a) ≡ canonical Op.XCHG z (counted z a) (counted z b)
+unfolding counted
+swap z a b k (inl l) = rw (k, l) (registers-swap z (b .rm) (a .rm))
+swap z a b k (inr l) = rw (k, l) (memory-swap z (b .rm) _ _ _)
+
+-- a form of XCHG, crossed
+pub record Crosses (g : Group) (op : Operation) (f : Form) : Type 0 where
+  pub crossed : (a b : OperandData) → takes (f .first) (sizeIn g a b b) b ≡ true → takes (f .second) (sizeIn g a b a) a ≡ true
+      → canonical op (widthOf f) (holds (f .first) b) (holds (f .second) a) ≡ meant g op a b
+
+-- its first slot takes a register, its second a register or memory
+record TakesRegister (s : Slot) : Type 0 where
+  pub kind : (z : OperandSize) (o : OperandData) → takes s z o ≡ true → o .kind ≡ K.Reg
+
+record TakesEither (s : Slot) : Type 0 where
+  pub kind : (z : OperandSize) (o : OperandData) → takes s z o ≡ true → (o .kind ≡ K.Reg) ⊎ (o .kind ≡ K.Mem)
+
+cross : {f : Form} → Sized (f .first) (widthOf f) → Holds (f .first) (counted (widthOf f)) → Holds (f .second) (counted (widthOf f))
+    → TakesRegister (f .first) → TakesEither (f .second) → Crosses G.exchange Op.XCHG f
+unfolding meant
+cross l p q x y = record {
+  crossed = λ a b h k.
+      let z = statedOf (a .size) (b .size) in
+      rw (p .are z b h, q .are z a k, ← (l .sized z b h)) (swap z a b (x .kind z b h) (y .kind z a k));
+}
+
+pub exchange-crosses : All (Crosses G.exchange Op.XCHG) (F.exchange Op.XCHG)
+exchange-crosses =
+    cross acc-sized plain plain (record { kind = λ z o e. reg-taken (o .kind) _ e .0 }) (record { kind = λ z o e. inl (reg-taken (o .kind) _ e .0) })
+    & cross reg-sized plain plain (record { kind = λ z o e. reg-taken (o .kind) _ e .0 }) (record { kind = λ z o e. rm-taken (o .kind) _ e .0 })
+    & cross reg-sized plain plain (record { kind = λ z o e. reg-taken (o .kind) _ e .0 }) (record { kind = λ z o e. rm-taken (o .kind) _ e .0 })
+    & end

@@ -1,0 +1,129 @@
+-- Which form is written (document 01, 'Code list', and question 5): of the operation's forms the first that takes the operands.
+-- Definitions only.
+use Prim.Native.Nat.{ℕ}
+use mathlib.Core.Bool.{Bool, true, false}
+use mathlib.Core.List.{List, [], _∷_}
+use lib.Dec.{eqb}
+use lib.IntN.{pos, negsuc}
+use Rattle.mrc_compiler.specs.declared.encoder.OperandData.{OperandData}
+use Rattle.mrc_compiler.specs.declared.encoder.OperandSize.{OperandSize}
+use Rattle.mrc_compiler.specs.declared.operations.Operation.{Operation}
+use Rattle.mrc_compiler.specs.Builders.{isDirectAddress}
+use Rattle.mrc_compiler.specs.Choose.{pick, both, isnt, bySize, byKind, byJump}
+use Rattle.mrc_compiler.specs.Operations.{sameOperation}
+use Rattle.mrc_compiler.specs.Values.{within}
+use Rattle.x86.specs.Forms.{Slot, rm, rm-near, mem, reg, sreg, sreg-not-cs, acc, low3, bits34, bits34-not-cs, CL, DX, one, moffs, xlat, ib, iw, ib-sx, cb, cw, ptr, nil, Form, forms}
+use Rattle.x86.specs.Reading.{keep}
+use Rattle.answers.specs.Records.{sameSize, statedOf}
+use Rattle.answers.specs.Groups.{Group, groupOf, arithmetic, unary, incDec, move, exchange, test, push, pop, load, shift, call, jump, conditional, loop, interrupt, translate, input, output, return, plain, unsupported}
+
+-- an operand of this kind that passes the test
+abbrev pub ifImm : OperandData → Bool → Bool
+ifImm o t = byKind (o .kind) t false false false
+
+abbrev pub ifReg : OperandData → Bool → Bool
+ifReg o t = byKind (o .kind) false t false false
+
+abbrev pub ifSeg : OperandData → Bool → Bool
+ifSeg o t = byKind (o .kind) false false t false
+
+abbrev pub ifMem : OperandData → Bool → Bool
+ifMem o t = byKind (o .kind) false false false t
+
+abbrev pub ifRm : OperandData → Bool → Bool
+ifRm o t = byKind (o .kind) false t false t
+
+-- does a slot take the operand o, which counts with the size s?
+abbrev pub takes : Slot → OperandSize → OperandData → Bool
+takes (rm w) s o = ifRm o (sameSize w s)
+takes rm-near s o = ifRm o (both (byJump (o .«jmp_kind») true false true false) (bySize (o .size) true false true))
+takes mem s o = ifMem o true
+takes (reg w) s o = ifReg o (sameSize w s)
+takes sreg s o = ifSeg o true
+takes sreg-not-cs s o = ifSeg o (isnt (eqb (o .rm) 1))
+takes (acc w) s o = ifReg o (both (sameSize w s) (eqb (o .rm) 0))
+takes (low3 w) s o = ifReg o (sameSize w s)
+takes bits34 s o = ifSeg o true
+takes bits34-not-cs s o = ifSeg o (isnt (eqb (o .rm) 1))
+takes CL s o = ifReg o (both (bySize (o .size) false true false) (eqb (o .rm) 1))
+takes DX s o = ifReg o (both (bySize (o .size) false false true) (eqb (o .rm) 2))
+takes one s o = ifImm o (within (pos 1) (pos 1) (o .imm))
+takes (moffs w) s o = ifMem o (both (sameSize w s) (isDirectAddress (o .mode) (o .rm)))
+takes xlat s o = ifMem o (both (eqb (o .mode) 0) (eqb (o .rm) 7))
+takes ib s o = ifImm o true
+takes iw s o = ifImm o true
+takes ib-sx s o = ifImm o (within (negsuc 127) (pos 127) (o .imm))
+takes cb s o = ifImm o (byJump (o .«jmp_kind») true false false true)
+takes cw s o = ifImm o (byJump (o .«jmp_kind») true false true false)
+takes ptr s o = ifImm o (byJump (o .«jmp_kind») false true false false)
+takes nil s o = true
+
+-- the size with which an operand o of the operands a and b counts: in some groups the one that either states, else its own
+abbrev pub sizeIn : Group → OperandData → OperandData → OperandData → OperandSize
+sizeIn arithmetic a b o = statedOf (a .size) (b .size)
+sizeIn unary a b o = o .size
+sizeIn incDec a b o = o .size
+sizeIn move a b o = statedOf (a .size) (b .size)
+sizeIn exchange a b o = statedOf (a .size) (b .size)
+sizeIn test a b o = statedOf (a .size) (b .size)
+sizeIn push a b o = o .size
+sizeIn pop a b o = o .size
+sizeIn load a b o = o .size
+sizeIn shift a b o = o .size
+sizeIn call a b o = o .size
+sizeIn jump a b o = o .size
+sizeIn conditional a b o = o .size
+sizeIn loop a b o = o .size
+sizeIn interrupt a b o = o .size
+sizeIn translate a b o = o .size
+sizeIn input a b o = o .size
+sizeIn output a b o = o .size
+sizeIn return a b o = o .size
+sizeIn plain a b o = o .size
+sizeIn unsupported a b o = o .size
+
+-- no form, or a form with the operands in its slots as the record has them, or the other way round
+pub data Choice : Type 0 where
+  none : Choice
+  straight : Form → Choice
+  crossed : Form → Choice
+
+-- the first form that takes a (of size s) and b (of size t), in either order where the operation has no first and second
+abbrev pub choose : Bool → List Form → OperandSize → OperandData → OperandSize → OperandData → Choice
+choose either-way [] s a t b = none
+choose either-way (f ∷ fs) s a t b =
+    pick (both (takes (f .first) s a) (takes (f .second) t b)) (straight f)
+    (pick (both either-way (both (takes (f .first) t b) (takes (f .second) s a))) (crossed f)
+    (choose either-way fs s a t b))
+
+-- only RET looks at the count: it has the form without operands at 0
+abbrev pub countTaken : Group → ℕ → Bool
+countTaken arithmetic k = true
+countTaken unary k = true
+countTaken incDec k = true
+countTaken move k = true
+countTaken exchange k = true
+countTaken test k = true
+countTaken push k = true
+countTaken pop k = true
+countTaken load k = true
+countTaken shift k = true
+countTaken call k = true
+countTaken jump k = true
+countTaken conditional k = true
+countTaken loop k = true
+countTaken interrupt k = true
+countTaken translate k = true
+countTaken input k = true
+countTaken output k = true
+countTaken return k = eqb k 0
+countTaken plain k = true
+countTaken unsupported k = true
+
+-- the form of a group that takes a record with count k and operands a and b
+abbrev pub choice : Group → Bool → List Form → ℕ → OperandData → OperandData → Choice
+choice g either-way fs k a b = pick (countTaken g k) (choose either-way fs (sizeIn g a b a) a (sizeIn g a b b) b) none
+
+-- the forms of an operation
+unfoldable pub formsOf : Operation → List Form
+formsOf op = keep (λ f. sameOperation (f .operation) op) forms

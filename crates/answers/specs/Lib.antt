@@ -1,0 +1,9 @@
+pub mod Records
+pub mod WellFormed
+pub mod Groups
+pub mod Meaning
+pub mod Choice
+pub mod Layout
+pub mod Limits
+pub mod Questions
+pub mod Answer

@@ -1,0 +1,151 @@
+-- The table of 256 rows: for each first byte the number of the shape that its forms have. The reader's code holds it as a constant.
+-- Generated from Forms; proofs/Rows compares each row with the forms.
+-- Definitions only.
+use mathlib.Core.List.{List, [], _∷_}
+use Prim.Native.Nat.{ℕ}
+use lib.ListN.{getD}
+use Rattle.x86.specs.Forms.{byte, word, Slot, rm, rm-near, mem, reg, sreg, sreg-not-cs, acc, low3, bits34, bits34-not-cs, CL, DX, one, moffs, xlat, ib, iw, ib-sx, cb, cw, ptr, nil, Extension, Form}
+use Rattle.x86.specs.Forms as F
+
+-- an extension, whatever its digit
+pub data Class : Type 0 where
+  unused : Class
+  plain : Class
+  plus-register : Class
+  plus-segment : Class
+  modrm : Class
+  modrm-digit : Class
+  second-0A : Class
+
+abbrev pub class : Extension → Class
+class F.no = plain
+class F.+r = plus-register
+class F.+s = plus-segment
+class F./r = modrm
+class (F./ n) = modrm-digit
+class F.0A = second-0A
+
+-- a slot as the reader sees it: a near target in r/m reads as a word
+abbrev pub asRead : Slot → Slot
+asRead (rm w) = rm w
+asRead rm-near = rm word
+asRead mem = mem
+asRead (reg w) = reg w
+asRead sreg = sreg
+asRead sreg-not-cs = sreg-not-cs
+asRead (acc w) = acc w
+asRead (low3 w) = low3 w
+asRead bits34 = bits34
+asRead bits34-not-cs = bits34-not-cs
+asRead CL = CL
+asRead DX = DX
+asRead one = one
+asRead (moffs w) = moffs w
+asRead xlat = xlat
+asRead ib = ib
+asRead iw = iw
+asRead ib-sx = ib-sx
+asRead cb = cb
+asRead cw = cw
+asRead ptr = ptr
+asRead nil = nil
+
+pub record Shape : Type 0 where
+  pub extension : Class
+  pub first : Slot
+  pub second : Slot
+
+abbrev pub shape : Class → Slot → Slot → Shape
+shape e a b = record { extension = e; first = a; second = b }
+
+abbrev pub shapeOf : Form → Shape
+shapeOf f = shape (class (f .extension)) (asRead (f .first)) (asRead (f .second))
+
+-- numbered from 0, which is no form's
+abbrev pub shapes : List Shape
+shapes =
+    shape unused nil nil  -- 0
+    ∷ shape modrm (rm byte) (reg byte)  -- 1
+    ∷ shape modrm (rm word) (reg word)  -- 2
+    ∷ shape modrm (reg byte) (rm byte)  -- 3
+    ∷ shape modrm (reg word) (rm word)  -- 4
+    ∷ shape plain (acc byte) ib  -- 5
+    ∷ shape plain (acc word) iw  -- 6
+    ∷ shape plus-segment bits34 nil  -- 7
+    ∷ shape plus-segment bits34-not-cs nil  -- 8
+    ∷ shape plain nil nil  -- 9
+    ∷ shape plus-register (low3 word) nil  -- 10
+    ∷ shape plain cb nil  -- 11
+    ∷ shape modrm-digit (rm byte) ib  -- 12
+    ∷ shape modrm-digit (rm word) iw  -- 13
+    ∷ shape modrm-digit (rm word) ib-sx  -- 14
+    ∷ shape modrm (rm word) sreg  -- 15
+    ∷ shape modrm (reg word) mem  -- 16
+    ∷ shape modrm sreg-not-cs (rm word)  -- 17
+    ∷ shape plus-register (acc word) (low3 word)  -- 18
+    ∷ shape plain (acc byte) (moffs byte)  -- 19
+    ∷ shape plain (acc word) (moffs word)  -- 20
+    ∷ shape plain (moffs byte) (acc byte)  -- 21
+    ∷ shape plain (moffs word) (acc word)  -- 22
+    ∷ shape plus-register (low3 byte) ib  -- 23
+    ∷ shape plus-register (low3 word) iw  -- 24
+    ∷ shape plain ib nil  -- 25
+    ∷ shape modrm-digit (rm byte) one  -- 26
+    ∷ shape modrm-digit (rm word) one  -- 27
+    ∷ shape modrm-digit (rm byte) CL  -- 28
+    ∷ shape modrm-digit (rm word) CL  -- 29
+    ∷ shape second-0A nil nil  -- 30
+    ∷ shape plain xlat nil  -- 31
+    ∷ shape plain (acc word) ib  -- 32
+    ∷ shape plain ib (acc byte)  -- 33
+    ∷ shape plain ib (acc word)  -- 34
+    ∷ shape plain cw nil  -- 35
+    ∷ shape plain ptr nil  -- 36
+    ∷ shape plain (acc byte) DX  -- 37
+    ∷ shape plain (acc word) DX  -- 38
+    ∷ shape plain DX (acc byte)  -- 39
+    ∷ shape plain DX (acc word)  -- 40
+    ∷ shape modrm-digit (rm byte) nil  -- 41
+    ∷ shape modrm-digit (rm word) nil  -- 42
+    ∷ []
+
+-- by first byte, 16 a line; 90 has XCHG's
+abbrev pub rows : List ℕ
+rows =
+    -- 0
+    1 ∷ 2 ∷ 3 ∷ 4 ∷ 5 ∷ 6 ∷ 7 ∷ 8 ∷ 1 ∷ 2 ∷ 3 ∷ 4 ∷ 5 ∷ 6 ∷ 7 ∷ 0
+    -- 1
+    ∷ 1 ∷ 2 ∷ 3 ∷ 4 ∷ 5 ∷ 6 ∷ 7 ∷ 8 ∷ 1 ∷ 2 ∷ 3 ∷ 4 ∷ 5 ∷ 6 ∷ 7 ∷ 8
+    -- 2
+    ∷ 1 ∷ 2 ∷ 3 ∷ 4 ∷ 5 ∷ 6 ∷ 0 ∷ 9 ∷ 1 ∷ 2 ∷ 3 ∷ 4 ∷ 5 ∷ 6 ∷ 0 ∷ 9
+    -- 3
+    ∷ 1 ∷ 2 ∷ 3 ∷ 4 ∷ 5 ∷ 6 ∷ 0 ∷ 9 ∷ 1 ∷ 2 ∷ 3 ∷ 4 ∷ 5 ∷ 6 ∷ 0 ∷ 9
+    -- 4
+    ∷ 10 ∷ 10 ∷ 10 ∷ 10 ∷ 10 ∷ 10 ∷ 10 ∷ 10 ∷ 10 ∷ 10 ∷ 10 ∷ 10 ∷ 10 ∷ 10 ∷ 10 ∷ 10
+    -- 5
+    ∷ 10 ∷ 10 ∷ 10 ∷ 10 ∷ 10 ∷ 10 ∷ 10 ∷ 10 ∷ 10 ∷ 10 ∷ 10 ∷ 10 ∷ 10 ∷ 10 ∷ 10 ∷ 10
+    -- 6
+    ∷ 0 ∷ 0 ∷ 0 ∷ 0 ∷ 0 ∷ 0 ∷ 0 ∷ 0 ∷ 0 ∷ 0 ∷ 0 ∷ 0 ∷ 0 ∷ 0 ∷ 0 ∷ 0
+    -- 7
+    ∷ 11 ∷ 11 ∷ 11 ∷ 11 ∷ 11 ∷ 11 ∷ 11 ∷ 11 ∷ 11 ∷ 11 ∷ 11 ∷ 11 ∷ 11 ∷ 11 ∷ 11 ∷ 11
+    -- 8
+    ∷ 12 ∷ 13 ∷ 0 ∷ 14 ∷ 0 ∷ 0 ∷ 3 ∷ 4 ∷ 1 ∷ 2 ∷ 3 ∷ 4 ∷ 15 ∷ 16 ∷ 17 ∷ 0
+    -- 9
+    ∷ 18 ∷ 18 ∷ 18 ∷ 18 ∷ 18 ∷ 18 ∷ 18 ∷ 18 ∷ 9 ∷ 9 ∷ 0 ∷ 0 ∷ 9 ∷ 9 ∷ 9 ∷ 9
+    -- A
+    ∷ 19 ∷ 20 ∷ 21 ∷ 22 ∷ 9 ∷ 9 ∷ 9 ∷ 9 ∷ 5 ∷ 0 ∷ 9 ∷ 9 ∷ 9 ∷ 9 ∷ 9 ∷ 9
+    -- B
+    ∷ 23 ∷ 23 ∷ 23 ∷ 23 ∷ 23 ∷ 23 ∷ 23 ∷ 23 ∷ 24 ∷ 24 ∷ 24 ∷ 24 ∷ 24 ∷ 24 ∷ 24 ∷ 24
+    -- C
+    ∷ 0 ∷ 0 ∷ 0 ∷ 9 ∷ 16 ∷ 16 ∷ 12 ∷ 13 ∷ 0 ∷ 0 ∷ 0 ∷ 0 ∷ 9 ∷ 25 ∷ 9 ∷ 9
+    -- D
+    ∷ 26 ∷ 27 ∷ 28 ∷ 29 ∷ 30 ∷ 30 ∷ 9 ∷ 31 ∷ 0 ∷ 0 ∷ 0 ∷ 0 ∷ 0 ∷ 0 ∷ 0 ∷ 0
+    -- E
+    ∷ 11 ∷ 11 ∷ 11 ∷ 11 ∷ 5 ∷ 32 ∷ 33 ∷ 34 ∷ 35 ∷ 35 ∷ 36 ∷ 0 ∷ 37 ∷ 38 ∷ 39 ∷ 40
+    -- F
+    ∷ 9 ∷ 0 ∷ 9 ∷ 9 ∷ 9 ∷ 9 ∷ 41 ∷ 42 ∷ 9 ∷ 9 ∷ 9 ∷ 9 ∷ 9 ∷ 9 ∷ 41 ∷ 42
+    ∷ []
+
+-- the shape of first byte c
+unfoldable pub shapeAt : ℕ → Shape
+shapeAt c = getD shapes (getD rows c 0) (shape unused nil nil)

@@ -1,0 +1,52 @@
+// An instruction as it counts for 'same instruction' (document 01, 'Read instruction'), and what a reading gives.
+use mrc_compiler::ast::Segment;
+use mrc_compiler::encoder::OperandSize;
+use mrc_compiler::operations::Operation;
+
+// A used operand.
+pub enum Operand {
+    None,
+
+    // A register's number in ModRM. Its size is the instruction's width; a port in DX is register 2, a shift's count in CL register 1.
+    Register(u8),
+
+    // A segment register's number.
+    SegmentRegister(u8),
+
+    // Base (the r/m number of the address, or 8 for an address without base), displacement modulo 65,536, segment in effect.
+    Memory(u8, u16, Segment),
+
+    // Modulo 256 or 65,536.
+    Immediate(u16),
+
+    // A near target, modulo 65,536.
+    Near(u16),
+
+    // A far target: offset and segment.
+    Far(u16, u16),
+
+    // A shift's count of 1.
+    One,
+}
+
+// Two records or byte strings are the same instruction where these are equal.
+pub struct Instruction {
+    pub operation: Operation,
+
+    // The form's width; Unspecified where the form has none.
+    pub width: OperandSize,
+    pub first: Operand,
+    pub second: Operand,
+}
+
+// What stands at the front of some bytes.
+pub enum Read {
+    // An instruction, with its length.
+    Whole(Instruction, usize),
+
+    // Refusal 10: no instruction begins so.
+    Nothing,
+
+    // Refusal 11: an instruction that is not complete yet.
+    More,
+}
