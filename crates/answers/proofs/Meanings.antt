@@ -91,7 +91,7 @@ DX-port : Holds DX port
 DX-port = record { are = λ z o e. rw (reg-taken (o .kind) _ e .0) }
 
 one-count : Holds one count
-one-count = record { are = λ z o e. rw (imm-taken (o .kind) _ e .0) }
+one-count = record { are = λ z o e. let t = imm-taken (o .kind) _ e in rw (t .0, t .1) }
 
 CL-count : Holds CL count
 CL-count = record { are = λ z o e. rw (reg-taken (o .kind) _ e .0) }

@@ -68,65 +68,6 @@ field cw = distance 3
 field ptr = elsewhere
 field nil = elsewhere
 
--- what each field gives to the bytes, and how it names memory
-abbrev pub placeOf : Field → Place
-placeOf in-rm = by-modrm
-placeOf in-reg = nowhere
-placeOf in-low3 = nowhere
-placeOf in-bits34 = nowhere
-placeOf by-address = R.by-address
-placeOf by-bx-al = R.by-bx-al
-placeOf (distance k) = nowhere
-placeOf elsewhere = nowhere
-
-abbrev pub laid : Field → OperandData → Part
-laid in-rm o = inRm o
-laid in-reg o = inReg (o .rm)
-laid in-low3 o = inOpcode (o .rm)
-laid in-bits34 o = inOpcode (8 * o .rm)
-laid by-address o = behindOpcode (o .«segment_prefix») (wordOf (o .displacement))
-laid by-bx-al o = behindOpcode (o .«segment_prefix») []
-laid (distance k) o = nothing
-laid elsewhere o = nothing
-
--- the same with an immediate
-abbrev pub holding : List ℕ → Part → Part
-holding i q = record { prefix = q .prefix; opcode = q .opcode; modrm = q .modrm; memory = q .memory; immediate = i }
-
--- a slot's part of the bytes goes by its field, but for the immediate
-pub record ByField (s : Slot) (off : ℕ) (o : OperandData) : Type 0 where
-  pub part-is : part s off o ≡ holding (part s off o .immediate) (laid (field s) o)
-  pub place-is : about s .place ≡ placeOf (field s)
-  pub takes-is : length (part s off o .immediate) ≡ about s .takes
-  pub are-bytes : Bytes (part s off o .immediate)
-
-far-bytes : (z y : ℤ) → Bytes (wordOf z ++ wordOf y)
-far-bytes z y = bytes-append (wordOf z) (wordOf y) (bytes-word z) (bytes-word y)
-
-pub by-field : (s : Slot) (off : ℕ) (o : OperandData) → ByField s off o
-by-field (rm w) off o = record { part-is = refl; place-is = refl; takes-is = refl; are-bytes = no-byte }
-by-field rm-near off o = record { part-is = refl; place-is = refl; takes-is = refl; are-bytes = no-byte }
-by-field mem off o = record { part-is = refl; place-is = refl; takes-is = refl; are-bytes = no-byte }
-by-field (reg w) off o = record { part-is = refl; place-is = refl; takes-is = refl; are-bytes = no-byte }
-by-field sreg off o = record { part-is = refl; place-is = refl; takes-is = refl; are-bytes = no-byte }
-by-field sreg-not-cs off o = record { part-is = refl; place-is = refl; takes-is = refl; are-bytes = no-byte }
-by-field (acc w) off o = record { part-is = refl; place-is = refl; takes-is = refl; are-bytes = no-byte }
-by-field (low3 w) off o = record { part-is = refl; place-is = refl; takes-is = refl; are-bytes = no-byte }
-by-field bits34 off o = record { part-is = refl; place-is = refl; takes-is = refl; are-bytes = no-byte }
-by-field bits34-not-cs off o = record { part-is = refl; place-is = refl; takes-is = refl; are-bytes = no-byte }
-by-field CL off o = record { part-is = refl; place-is = refl; takes-is = refl; are-bytes = no-byte }
-by-field DX off o = record { part-is = refl; place-is = refl; takes-is = refl; are-bytes = no-byte }
-by-field one off o = record { part-is = refl; place-is = refl; takes-is = refl; are-bytes = no-byte }
-by-field (moffs w) off o = record { part-is = refl; place-is = refl; takes-is = refl; are-bytes = no-byte }
-by-field xlat off o = record { part-is = refl; place-is = refl; takes-is = refl; are-bytes = no-byte }
-by-field ib off o = record { part-is = refl; place-is = refl; takes-is = refl; are-bytes = bytes-byte (o .imm) }
-by-field iw off o = record { part-is = refl; place-is = refl; takes-is = refl; are-bytes = bytes-word (o .imm) }
-by-field ib-sx off o = record { part-is = refl; place-is = refl; takes-is = refl; are-bytes = bytes-byte (o .imm) }
-by-field cb off o = record { part-is = refl; place-is = refl; takes-is = refl; are-bytes = bytes-byte (distanceOf (o .imm) off 2) }
-by-field cw off o = record { part-is = refl; place-is = refl; takes-is = refl; are-bytes = bytes-word (distanceOf (o .imm) off 3) }
-by-field ptr off o = record { part-is = refl; place-is = refl; takes-is = refl; are-bytes = far-bytes (o .imm) (o .displacement) }
-by-field nil off o = record { part-is = refl; place-is = refl; takes-is = refl; are-bytes = no-byte }
-
 -- ---- what a slot holds of an operand
 abbrev pub holds : Slot → OperandData → Operand
 holds (rm w) o = counted w o
@@ -323,3 +264,62 @@ found ptr off o h g p c x next t u i a =
     got refl refl
     (rw (a 0 (omega arith), a 1 (omega arith), a 2 (omega arith), a 3 (omega arith), word-back (o .imm) [], far-back (o .imm) (o .displacement)))
 found nil off o h g p c x next t u i a = got refl refl refl
+
+-- ---- how each field names memory, and what it gives to the bytes
+abbrev pub placeOf : Field → Place
+placeOf in-rm = by-modrm
+placeOf in-reg = nowhere
+placeOf in-low3 = nowhere
+placeOf in-bits34 = nowhere
+placeOf by-address = R.by-address
+placeOf by-bx-al = R.by-bx-al
+placeOf (distance k) = nowhere
+placeOf elsewhere = nowhere
+
+abbrev pub laid : Field → OperandData → Part
+laid in-rm o = inRm o
+laid in-reg o = inReg (o .rm)
+laid in-low3 o = inOpcode (o .rm)
+laid in-bits34 o = inOpcode (8 * o .rm)
+laid by-address o = behindOpcode (o .«segment_prefix») (wordOf (o .displacement))
+laid by-bx-al o = behindOpcode (o .«segment_prefix») []
+laid (distance k) o = nothing
+laid elsewhere o = nothing
+
+-- the same with an immediate
+abbrev pub holding : List ℕ → Part → Part
+holding i q = record { prefix = q .prefix; opcode = q .opcode; modrm = q .modrm; memory = q .memory; immediate = i }
+
+-- a slot's part of the bytes goes by its field, but for the immediate
+pub record ByField (s : Slot) (off : ℕ) (o : OperandData) : Type 0 where
+  pub part-is : part s off o ≡ holding (part s off o .immediate) (laid (field s) o)
+  pub place-is : about s .place ≡ placeOf (field s)
+  pub takes-is : length (part s off o .immediate) ≡ about s .takes
+  pub are-bytes : Bytes (part s off o .immediate)
+
+far-bytes : (z y : ℤ) → Bytes (wordOf z ++ wordOf y)
+far-bytes z y = bytes-append (wordOf z) (wordOf y) (bytes-word z) (bytes-word y)
+
+pub by-field : (s : Slot) (off : ℕ) (o : OperandData) → ByField s off o
+by-field (rm w) off o = record { part-is = refl; place-is = refl; takes-is = refl; are-bytes = no-byte }
+by-field rm-near off o = record { part-is = refl; place-is = refl; takes-is = refl; are-bytes = no-byte }
+by-field mem off o = record { part-is = refl; place-is = refl; takes-is = refl; are-bytes = no-byte }
+by-field (reg w) off o = record { part-is = refl; place-is = refl; takes-is = refl; are-bytes = no-byte }
+by-field sreg off o = record { part-is = refl; place-is = refl; takes-is = refl; are-bytes = no-byte }
+by-field sreg-not-cs off o = record { part-is = refl; place-is = refl; takes-is = refl; are-bytes = no-byte }
+by-field (acc w) off o = record { part-is = refl; place-is = refl; takes-is = refl; are-bytes = no-byte }
+by-field (low3 w) off o = record { part-is = refl; place-is = refl; takes-is = refl; are-bytes = no-byte }
+by-field bits34 off o = record { part-is = refl; place-is = refl; takes-is = refl; are-bytes = no-byte }
+by-field bits34-not-cs off o = record { part-is = refl; place-is = refl; takes-is = refl; are-bytes = no-byte }
+by-field CL off o = record { part-is = refl; place-is = refl; takes-is = refl; are-bytes = no-byte }
+by-field DX off o = record { part-is = refl; place-is = refl; takes-is = refl; are-bytes = no-byte }
+by-field one off o = record { part-is = refl; place-is = refl; takes-is = refl; are-bytes = no-byte }
+by-field (moffs w) off o = record { part-is = refl; place-is = refl; takes-is = refl; are-bytes = no-byte }
+by-field xlat off o = record { part-is = refl; place-is = refl; takes-is = refl; are-bytes = no-byte }
+by-field ib off o = record { part-is = refl; place-is = refl; takes-is = refl; are-bytes = bytes-byte (o .imm) }
+by-field iw off o = record { part-is = refl; place-is = refl; takes-is = refl; are-bytes = bytes-word (o .imm) }
+by-field ib-sx off o = record { part-is = refl; place-is = refl; takes-is = refl; are-bytes = bytes-byte (o .imm) }
+by-field cb off o = record { part-is = refl; place-is = refl; takes-is = refl; are-bytes = bytes-byte (distanceOf (o .imm) off 2) }
+by-field cw off o = record { part-is = refl; place-is = refl; takes-is = refl; are-bytes = bytes-word (distanceOf (o .imm) off 3) }
+by-field ptr off o = record { part-is = refl; place-is = refl; takes-is = refl; are-bytes = far-bytes (o .imm) (o .displacement) }
+by-field nil off o = record { part-is = refl; place-is = refl; takes-is = refl; are-bytes = no-byte }

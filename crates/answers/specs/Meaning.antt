@@ -1,14 +1,14 @@
 -- The instruction that a record means, by the record alone (document 01, 'Same instruction'). A near target is the record's immediate, so it
 -- is the same at every offset.
 -- Definitions only.
-use mathlib.Core.List.{List, [], _∷_}
+use lib.IntN.{pos}
 use Rattle.mrc_compiler.specs.declared.encoder.InstructionData.{InstructionData}
 use Rattle.mrc_compiler.specs.declared.encoder.OperandData.{OperandData}
 use Rattle.mrc_compiler.specs.declared.encoder.OperandSize.{OperandSize}
 use Rattle.mrc_compiler.specs.declared.encoder.OperandSize.the-variants as S
 use Rattle.mrc_compiler.specs.declared.operations.Operation.{Operation}
-use Rattle.mrc_compiler.specs.Choose.{bySize, byKind, byJump}
-use Rattle.mrc_compiler.specs.Values.{modZ}
+use Rattle.mrc_compiler.specs.Choose.{pick, bySize, byKind, byJump}
+use Rattle.mrc_compiler.specs.Values.{within, modZ}
 use Rattle.x86.specs.declared.Instruction.{Instruction}
 use Rattle.x86.specs.declared.Operand.{Operand}
 use Rattle.x86.specs.declared.Operand.the-variants as O
@@ -25,12 +25,14 @@ counted w o =
     (O.SegmentRegister (o .rm))
     (O.Memory (base (o .mode) (o .rm)) (modZ 65536 (o .displacement)) (inEffect (o .«segment_prefix») (defaultSegment (o .mode) (o .rm))))
 
--- a port is a byte, or register DX; a shift's count is 1, or register CL
+-- a port is a byte, or register DX
 abbrev pub port : OperandData → Operand
 port o = byKind (o .kind) (O.Immediate (modZ 256 (o .imm))) (O.Register (o .rm)) O.None O.None
 
+-- a shift's count is 1, or register CL
 abbrev pub count : OperandData → Operand
-count o = byKind (o .kind) O.One (O.Register (o .rm)) O.None O.None
+count o =
+    byKind (o .kind) (pick (within (pos 1) (pos 1) (o .imm)) O.One (O.Immediate (modZ 256 (o .imm)))) (O.Register (o .rm)) O.None O.None
 
 abbrev pub nearTarget : OperandData → Operand
 nearTarget o = O.Near (modZ 65536 (o .imm))

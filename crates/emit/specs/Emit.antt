@@ -1,0 +1,114 @@
+-- What the code list emits: the bytes of each code, or the refusal (003).
+-- Definitions only.
+use Prim.Native.Nat.{ℕ, _+_, _*_, _%_}
+use mathlib.Core.Bool.{Bool, true, false}
+use mathlib.Core.List.{List, [], _∷_, _++_}
+use lib.Dec.{eqb, ltb}
+use lib.IntN.{ℤ, pos, negsuc}
+use lib.ListN.{set}
+use Rattle.mrc_compiler.specs.declared.ast.Span.{Span}
+use Rattle.mrc_compiler.specs.declared.encoder.EncodeError.the-variants as E
+use Rattle.mrc_compiler.specs.declared.encoder.InstructionData.{InstructionData}
+use Rattle.mrc_compiler.specs.declared.encoder.OperandData.{OperandData}
+use Rattle.mrc_compiler.specs.declared.encoder.OperandSize.the-variants as S
+use Rattle.mrc_compiler.specs.declared.encoder.generate.Code.{Code}
+use Rattle.mrc_compiler.specs.declared.encoder.generate.Code.the-variants as C
+use Rattle.mrc_compiler.specs.declared.encoder.generate.Codes.{Codes}
+use Rattle.mrc_compiler.specs.Choose.{pick}
+use Rattle.mrc_compiler.specs.Values.{within}
+use Rattle.values.specs.Distances.{distanceOf, wrapped}
+use Rattle.answers.specs.Records.{dst, src}
+use Rattle.answers.specs.Layout.{byteOf, wordOf, prefixBytes, displacementBytes}
+use Rattle.answers.specs.Answer.{Answer, bytes, refused}
+use Rattle.emit.specs.declared.ByteRun.{ByteRun}
+use Rattle.emit.specs.declared.Refusal.{Refusal}
+use Rattle.emit.specs.declared.Refusal.the-variants as R
+use Rattle.emit.specs.declared.Emitted.{Emitted}
+
+-- ---- a run of bytes
+abbrev pub emptyRun : ByteRun
+emptyRun = record { bytes = 0 ∷ 0 ∷ 0 ∷ 0 ∷ 0 ∷ 0 ∷ 0 ∷ []; len = 0 }
+
+-- one byte more. A full run drops it: no answer has more than seven bytes (answers, Accepted)
+abbrev pub pushed : ByteRun → ℕ → ByteRun
+pushed run b = pick (ltb (run .len) 7) (record { bytes = set (run .bytes) (run .len) b; len = run .len + 1 }) run
+
+abbrev pub appended : ByteRun → List ℕ → ByteRun
+appended run [] = run
+appended run (b ∷ bs) = appended (pushed run b) bs
+
+-- the run with an answer's bytes behind it, or as it was with the refusal
+abbrev pub emitted : ByteRun → Answer → Emitted
+emitted run (bytes bs) = record { refusal = R.None; run = appended run bs }
+emitted run (refused e) = record { refusal = R.Because e; run = run }
+
+abbrev pub isRefused : Refusal → Bool
+isRefused R.None = false
+isRefused (R.Because e) = true
+
+-- what came out behind a first part: where it was refused, the run before both
+abbrev pub undone : ByteRun → Emitted → Emitted
+undone run second = record { refusal = second .refusal; run = pick (isRefused (second .refusal)) run (second .run) }
+
+-- ---- the bytes of a code
+-- a value in its limits, or refusal 5
+abbrev pub ranged : ℤ → ℤ → ℤ → Span → List ℕ → Answer
+ranged low high value span bs = pick (within low high value) (bytes bs) (refused (E.ImmediateOutOfRange span value low high))
+
+unfoldable pub immediateByte : ℤ → ℤ → ℤ → Span → Answer
+immediateByte low high value span = ranged low high value span (byteOf value)
+
+unfoldable pub immediateWord : ℤ → ℤ → ℤ → Span → Answer
+immediateWord low high value span = ranged low high value span (wordOf value)
+
+-- a distance byte, or refusal 6
+unfoldable pub relativeByte : OperandData → ℕ → ℕ → Answer
+relativeByte o off size =
+    let d = distanceOf (o .imm) off size in
+    pick (within (negsuc 127) (pos 127) d) (bytes (byteOf d)) (refused (E.RelativeJumpOutOfRange (o .span) S.Byte true (wrapped d)))
+
+-- a distance word of an instruction of three bytes
+unfoldable pub relativeWord : OperandData → ℕ → Answer
+relativeWord o off = ranged (pos 0) (pos 65535) (o .imm) (o .span) (wordOf (distanceOf (o .imm) off 3))
+
+-- the fields are taken modulo their widths: in a well-formed operand they are below
+abbrev pub modRmByte : ℕ → ℕ → ℕ → ℕ
+modRmByte mode reg rm = mode % 4 * 64 + reg % 8 * 8 + rm % 8
+
+unfoldable pub modRegRm : ℕ → OperandData → ℕ → List ℕ
+modRegRm op rm reg =
+    prefixBytes (rm .«segment_prefix») ++ (op ∷ modRmByte (rm .mode) reg (rm .rm) ∷ displacementBytes rm)
+
+abbrev pub joined : Answer → Answer → Answer
+joined (refused e) b = refused e
+joined (bytes xs) (refused e) = refused e
+joined (bytes xs) (bytes ys) = bytes (xs ++ ys)
+
+abbrev pub operand : InstructionData → ℕ → OperandData
+operand insn k = pick (eqb k 0) (dst insn) (src insn)
+
+abbrev pub other : InstructionData → ℕ → OperandData
+other insn k = pick (eqb k 0) (src insn) (dst insn)
+
+abbrev pub codeAnswer : Code → InstructionData → ℕ → Answer
+codeAnswer (C.Byte b) insn off = bytes (b ∷ [])
+codeAnswer (C.ImmByte k) insn off = immediateByte (pos 0) (pos 255) (operand insn k .imm) (operand insn k .span)
+codeAnswer (C.ImmWord k) insn off = immediateWord (pos 0) (pos 65535) (operand insn k .imm) (operand insn k .span)
+codeAnswer (C.DispWord k) insn off = immediateWord (pos 0) (pos 65535) (operand insn k .displacement) (operand insn k .span)
+codeAnswer (C.RelByte k size) insn off = relativeByte (operand insn k) off size
+codeAnswer (C.ModRegRM k op) insn off = bytes (modRegRm op (operand insn k) (other insn k .rm))
+codeAnswer (C.ModRM k op reg) insn off = bytes (modRegRm op (operand insn k) reg)
+codeAnswer (C.RegByte k op) insn off = bytes ((op + operand insn k .rm % 8) % 256 ∷ [])
+codeAnswer (C.SegByte k op) insn off = bytes ((op + 8 * (operand insn k .rm % 4)) % 256 ∷ [])
+codeAnswer (C.MemByte k op) insn off = bytes (prefixBytes (operand insn k .«segment_prefix») ++ (op ∷ []))
+codeAnswer (C.ImmSignedByte k) insn off = immediateByte (negsuc 127) (pos 255) (operand insn k .imm) (operand insn k .span)
+codeAnswer (C.ImmSignedWord k) insn off = immediateWord (negsuc 32767) (pos 65535) (operand insn k .imm) (operand insn k .span)
+codeAnswer (C.RelWord k) insn off = relativeWord (operand insn k) off
+codeAnswer (C.FarWords k) insn off =
+    joined (immediateWord (pos 0) (pos 65535) (operand insn k .imm) (operand insn k .span))
+    (immediateWord (pos 0) (pos 65535) (operand insn k .displacement) (operand insn k .span))
+
+-- one or two codes
+abbrev pub codesAnswer : Codes → InstructionData → ℕ → Answer
+codesAnswer codes insn off =
+    pick (eqb (codes .count) 1) (codeAnswer (codes .first) insn off) (joined (codeAnswer (codes .first) insn off) (codeAnswer (codes .second) insn off))

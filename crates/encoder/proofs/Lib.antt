@@ -1,0 +1,4 @@
+pub mod Joins
+pub mod Tails
+pub mod Heads
+pub mod Tied

@@ -1,0 +1,15 @@
+use Rattle.plans.specs.Plans.{planBy}
+use Rattle.plans.specs.Blocks.{adjustPlan}
+use borrow.Author.Needs.{needs}
+use Rattle.group_control.proofs.encode_group_aam.Statement.{statement}
+use Rattle.group_control.proofs.encode_group_aam.Tie as tie
+
+two-requires : tie.Need-two-requires
+two-requires c κs = search needs
+
+returns : tie.Need-returns
+unfolding planBy adjustPlan
+returns c = c .two .ensures
+
+pub encode-group-aam-spec : {M : Type 1} → statement M
+encode-group-aam-spec = tie.close (tie.spec two-requires returns)

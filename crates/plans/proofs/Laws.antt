@@ -1,0 +1,48 @@
+-- What the answer of common_operand_size says of questions 3 and 4.
+-- Assumes nothing.
+use mathlib.Core.Path.{_≡_, refl}
+use mathlib.Core.Bool.{Bool, true, false}
+use Rattle.mrc_compiler.specs.declared.encoder.OperandSize.{OperandSize}
+use Rattle.mrc_compiler.specs.declared.encoder.OperandSize.the-variants as S
+use Rattle.mrc_compiler.specs.Builders.{isSpecified}
+use Rattle.mrc_compiler.specs.declared.encoder.OperandKind.{OperandKind}
+use Rattle.mrc_compiler.specs.declared.encoder.OperandKind.the-variants as K
+use Rattle.mrc_compiler.specs.Choose.{both, either, byKind}
+use Rattle.answers.specs.Records.{statedOf}
+use Rattle.answers.specs.Questions.{agree}
+use Rattle.plans.specs.declared.Common.{Common}
+use Rattle.plans.specs.declared.Common.the-variants as M
+use Rattle.plans.specs.Sizes.{commonOf}
+
+-- both questions get yes, and the size is w
+abbrev pub Settled : OperandSize → OperandSize → OperandSize → Type 0
+Settled w s t = (either (isSpecified s) (isSpecified t) ≡ true) × (agree s t ≡ true) × (statedOf s t ≡ w)
+
+abbrev pub Told : Common → OperandSize → OperandSize → Type 0
+Told M.Byte s t = Settled S.Byte s t
+Told M.Word s t = Settled S.Word s t
+Told M.NotSpecified s t = either (isSpecified s) (isSpecified t) ≡ false
+Told M.DoNotMatch s t = (either (isSpecified s) (isSpecified t) ≡ true) × (agree s t ≡ false)
+
+pub told : (s t : OperandSize) → Told (commonOf s t) s t
+told S.Unspecified S.Unspecified = refl
+told S.Unspecified S.Byte = (refl, refl, refl)
+told S.Unspecified S.Word = (refl, refl, refl)
+told S.Byte S.Unspecified = (refl, refl, refl)
+told S.Byte S.Byte = (refl, refl, refl)
+told S.Byte S.Word = (refl, refl)
+told S.Word S.Unspecified = (refl, refl, refl)
+told S.Word S.Byte = (refl, refl)
+told S.Word S.Word = (refl, refl, refl)
+
+-- a conjunction whose second part fails
+pub both-no : (t : Bool) → both t false ≡ false
+both-no true = refl
+both-no false = refl
+
+-- a kind that is looked at for nothing
+pub kind-no : (k : OperandKind) → byKind k false false false false ≡ false
+kind-no K.Imm = refl
+kind-no K.Reg = refl
+kind-no K.Seg = refl
+kind-no K.Mem = refl
