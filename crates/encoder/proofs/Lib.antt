@@ -2,3 +2,5 @@ pub mod Joins
 pub mod Tails
 pub mod Heads
 pub mod Tied
+pub mod Laws
+pub mod Encoded

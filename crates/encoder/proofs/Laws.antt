@@ -1,0 +1,132 @@
+-- The answer by question 1 and the plan, and what a run of at most seven bytes writes of it.
+-- Assumes nothing.
+use mathlib.Core.Path.{_≡_, refl, sym, ap, _∙_}
+use mathlib.Core.Bool.{Bool, true, false}
+use mathlib.Core.List.{List, [], _∷_, _++_, append-assoc, append-nil}
+use Prim.Native.Nat.{ℕ, zero, suc, _+_, _<_, _≤_}
+use native.Mathlib.Nat.{le-of-suc-le-suc, not-suc-le-zero}
+use native.Mathlib.Numerals.{add-one}
+use native.Mathlib.Omega.{arith}
+use lib.Dec.{leb}
+use lib.ListN.{length, take, drop, set, getD, length-set, length-append}
+use lib.Seq.{take-suc-set}
+use borrow.Author.Tests.{lt-ltb}
+use Rattle.mrc_compiler.specs.declared.ast.Span.{Span}
+use Rattle.mrc_compiler.specs.declared.encoder.EncodeError.{EncodeError}
+use Rattle.mrc_compiler.specs.declared.encoder.EncodeError.the-variants as E
+use Rattle.mrc_compiler.specs.declared.encoder.Encoded.the-variants as N
+use Rattle.mrc_compiler.specs.declared.encoder.InstructionData.{InstructionData}
+use Rattle.mrc_compiler.specs.Choose.{pick}
+use Rattle.answers.specs.Records.{dst, src}
+use Rattle.answers.specs.WellFormed.{wellFormed}
+use Rattle.answers.specs.Answer.{Answer, bytes, refused, answer, outcome, sliceAfter}
+use Rattle.answers.proofs.Accepted.{accepted-reads}
+use Rattle.plans.specs.Plans.{planOf}
+use Rattle.emit.specs.declared.ByteRun.{ByteRun}
+use Rattle.emit.specs.declared.Emitted.{Emitted}
+use Rattle.emit.specs.declared.Refusal.the-variants as R
+use Rattle.emit.specs.Emit.{emptyRun, pushed, appended, emitted}
+use Rattle.encoder.specs.Coded.{planAnswer, coded}
+use Rattle.encoder.proofs.Tied.{tied}
+
+-- ---- question 1, then the plan
+module _ (insn : InstructionData) (off : ℕ) where
+  pub count-refused : leb (insn .«num_opers») 2 ≡ false → answer insn off ≡ refused (E.NotWellFormed (insn .«opers_span»))
+  unfolding coded
+  count-refused n = sym (tied insn off) ∙ rw n
+
+  pub first-refused : leb (insn .«num_opers») 2 ≡ true → wellFormed (dst insn) ≡ false → answer insn off ≡ refused (E.NotWellFormed (dst insn .span))
+  unfolding coded
+  first-refused n a = sym (tied insn off) ∙ rw (n, a)
+
+  pub second-refused : leb (insn .«num_opers») 2 ≡ true → wellFormed (dst insn) ≡ true → wellFormed (src insn) ≡ false
+      → answer insn off ≡ refused (E.NotWellFormed (src insn .span))
+  unfolding coded
+  second-refused n a b = sym (tied insn off) ∙ rw (n, a, b)
+
+  pub planned : leb (insn .«num_opers») 2 ≡ true → wellFormed (dst insn) ≡ true → wellFormed (src insn) ≡ true
+      → answer insn off ≡ planAnswer (planOf insn) insn off
+  unfolding coded
+  planned n a b = sym (tied insn off) ∙ rw (n, a, b)
+
+-- ---- a run and the lent slice
+
+-- one byte more copied
+pub copied-more : (bs s : List ℕ) (i : ℕ) → i < length bs → i < length s → set (take i bs ++ drop i s) i (getD bs i 0) ≡ take (suc i) bs ++ drop (suc i) s
+copied-more [] s i hb hs = absurd (not-suc-le-zero hb)
+copied-more (b ∷ bs) [] i hb hs = absurd (not-suc-le-zero hs)
+copied-more (b ∷ bs) (x ∷ s) zero hb hs = refl
+copied-more (b ∷ bs) (x ∷ s) (suc i) hb hs = ap (λ (l : List ℕ). b ∷ l) (copied-more bs s i (le-of-suc-le-suc hb) (le-of-suc-le-suc hs))
+
+-- what a run holds
+pub record Holds (run : ByteRun) (bs : List ℕ) : Type 0 where
+  pub shown : take (run .len) (run .bytes) ≡ bs
+  pub count : run .len ≡ length bs
+  pub whole : length (run .bytes) ≡ 7
+
+push-holds : (run : ByteRun) (bs : List ℕ) (b : ℕ) → Holds run bs → length bs < 7 → Holds (pushed run b) (bs ++ (b ∷ []))
+push-holds run bs b h less =
+    let room : run .len < 7 = omega (arith, h .count) in
+    rw (lt-ltb (run .len) 7 room)
+    (record {
+      shown = rw (add-one (run .len), take-suc-set (run .bytes) (run .len) b (omega (arith, h .whole)), h .shown);
+      count = omega (arith, h .count, length-append bs (b ∷ []));
+      whole = length-set (run .bytes) (run .len) b ∙ h .whole;
+    })
+
+appended-holds : (run : ByteRun) (bs cs : List ℕ) → Holds run bs → length bs + length cs ≤ 7 → Holds (appended run cs) (bs ++ cs)
+appended-holds run bs [] h less = rw (append-nil bs) h
+appended-holds run bs (c ∷ cs) h less =
+    rw (← (append-assoc bs (c ∷ []) cs))
+    (appended-holds (pushed run c) (bs ++ (c ∷ [])) cs (push-holds run bs c h (omega arith)) (omega (arith, length-append bs (c ∷ []))))
+
+all-holds : (bs : List ℕ) → length bs ≤ 7 → Holds (appended emptyRun bs) bs
+all-holds bs less = appended-holds emptyRun [] bs (record { shown = refl; count = refl; whole = refl }) (omega arith)
+
+-- at most seven bytes, where there are bytes
+abbrev pub Short : Answer → Type 0
+Short (refused e) = Unit {0}
+Short (bytes bs) = length bs ≤ 7
+
+short-from : (insn : InstructionData) (off : ℕ) → off < 65536 → (a : Answer) → answer insn off ≡ a → Short a
+short-from insn off h (refused e) q = tt
+short-from insn off h (bytes bs) q = accepted-reads insn off h bs q .short
+
+module _ (d : Emitted) where
+  len-of : (a : Answer) → Short a → d ≡ emitted emptyRun a → d .run .len ≤ 7
+  len-of (refused e) sh hd = rw hd (omega arith)
+  len-of (bytes bs) sh hd = rw (hd, all-holds bs sh .count) sh
+
+  refused-by : (a : Answer) (e : EncodeError) → d ≡ emitted emptyRun a → d .refusal ≡ R.Because e → a ≡ refused e
+  refused-by (refused x) e hd nd = cc
+  refused-by (bytes bs) e hd nd = let z : _≡_ {A = ℕ} 0 1 = cc in absurd (omega arith)
+
+  out-by : (span : Span) (s : List ℕ) (a : Answer) (x : List ℕ) (t : Bool) → Short a → d ≡ emitted emptyRun a → d .refusal ≡ R.None
+      → t ≡ leb (d .run .len) (length s)
+      → x ≡ pick (leb (d .run .len) (length s)) (take (d .run .len) (d .run .bytes) ++ drop (d .run .len) s) s
+      → (pick t (N.Length (d .run .len)) (N.Refused (E.SliceTooShort span)) ≡ outcome a span s) × (x ≡ sliceAfter a s)
+  out-by span s (refused e) x t sh hd nd ht hx = let z : _≡_ {A = ℕ} 0 1 = cc in absurd (omega arith)
+  out-by span s (bytes bs) x t sh hd nd ht hx =
+      let h = all-holds bs sh in
+      let hr : d .run ≡ appended emptyRun bs = ap (λ (y : Emitted). y .run) hd in
+      let ht' = rw (hr, h .count) at ht in
+      let hx' = rw (hr, h .shown, h .count) at hx in
+      (rw (ht', hr, h .count), hx')
+
+-- d is what run_of gives for a record
+module _ (insn : InstructionData) (off : ℕ) (h : off < 65536) (d : Emitted) (hd : d ≡ emitted emptyRun (answer insn off)) where
+  short-answer : Short (answer insn off)
+  short-answer = short-from insn off h (answer insn off) refl
+
+  pub len-ok : d .run .len ≤ 7
+  len-ok = len-of d (answer insn off) short-answer hd
+
+  pub is-refused : (e : EncodeError) → d .refusal ≡ R.Because e → answer insn off ≡ refused e
+  is-refused e nd = refused-by d (answer insn off) e hd nd
+
+  pub out-ok : (s x : List ℕ) (t : Bool) → d .refusal ≡ R.None
+      → t ≡ leb (d .run .len) (length s)
+      → x ≡ pick (leb (d .run .len) (length s)) (take (d .run .len) (d .run .bytes) ++ drop (d .run .len) s) s
+      → (pick t (N.Length (d .run .len)) (N.Refused (E.SliceTooShort (insn .«opers_span»))) ≡ outcome (answer insn off) (insn .«opers_span») s)
+      × (x ≡ sliceAfter (answer insn off) s)
+  out-ok s x t nd ht hx = out-by d (insn .«opers_span») s (answer insn off) x t short-answer hd nd ht hx

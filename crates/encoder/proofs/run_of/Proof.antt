@@ -1,0 +1,77 @@
+use mathlib.Core.Path.{sym, _∙_}
+use borrow.Author.Needs.{needs}
+use borrow.Author.Tests.{le-leb, lt-leb}
+use Rattle.encoder.proofs.Laws.{count-refused, first-refused, second-refused, planned}
+use Rattle.encoder.proofs.run_of.Statement.{statement}
+use Rattle.encoder.proofs.run_of.Tie as tie
+
+element-copy-out-dst : tie.Need-element-copy-out-dst
+element-copy-out-dst c = search needs
+
+element-copy-out-src : tie.Need-element-copy-out-src
+element-copy-out-src c = search needs
+
+refused-requires : tie.Need-refused-requires
+refused-requires c κs = search needs
+
+returns : tie.Need-returns
+returns c = rw (count-refused _ _ (lt-leb _ _ (c .before .if1 .taken))) (c .refused .ensures)
+
+is-well-formed-requires : tie.Need-is-well-formed-requires
+is-well-formed-requires c κs = search needs
+
+is-well-formed-requires-2 : tie.Need-is-well-formed-requires-2
+is-well-formed-requires-2 c κs = search needs
+
+plan-of-requires : tie.Need-plan-of-requires
+plan-of-requires c κs = search needs
+
+run-of-plan-requires : tie.Need-run-of-plan-requires
+run-of-plan-requires c κs = search needs
+
+refused-requires-2 : tie.Need-refused-requires-2
+refused-requires-2 c κs = search needs
+
+refused-requires-3 : tie.Need-refused-requires-3
+refused-requires-3 c κs = search needs
+
+returns-2 : tie.Need-returns-2
+returns-2 c =
+    let a = c .before .before .before .before .before .before .before .before .before .before .before .before .args .t1 in
+    let few = le-leb (a .«num_opers») 2 (c .before .before .before .before .before .before .if1 .left) in
+    let first = sym (c .before .before .before .before .before .is-well-formed .ensures) ∙ c .before .before .before .before .if2 .taken in
+    let second = sym (c .before .before .before .is-well-formed2 .ensures) ∙ c .before .before .if3 .taken in
+    rw (planned a _ few first second) (rw (c .before .plan-of .ensures) at (c .run-of-plan .ensures))
+
+returns-3 : tie.Need-returns-3
+returns-3 c =
+    let a = c .before .before .before .before .before .before .before .before .before .before .before .args .t1 in
+    let few = le-leb (a .«num_opers») 2 (c .before .before .before .before .before .if1 .left) in
+    let first = sym (c .before .before .before .before .is-well-formed .ensures) ∙ c .before .before .before .if2 .taken in
+    let second = sym (c .before .before .is-well-formed2 .ensures) ∙ c .before .if3 .left in
+    rw (second-refused a _ few first second) (c .refused2 .ensures)
+
+returns-4 : tie.Need-returns-4
+returns-4 c =
+    let a = c .before .before .before .before .before .before .before .before .before .args .t1 in
+    let few = le-leb (a .«num_opers») 2 (c .before .before .before .if1 .left) in
+    let first = sym (c .before .before .is-well-formed .ensures) ∙ c .before .if2 .left in
+    rw (first-refused a _ few first) (c .refused3 .ensures)
+
+pub run-of-spec : {M : Type 1} → statement M
+run-of-spec =
+    tie.close
+    (tie.spec
+    element-copy-out-dst
+    element-copy-out-src
+    refused-requires
+    returns
+    is-well-formed-requires
+    is-well-formed-requires-2
+    plan-of-requires
+    run-of-plan-requires
+    refused-requires-2
+    refused-requires-3
+    returns-2
+    returns-3
+    returns-4)
