@@ -27,6 +27,7 @@ use Rattle.emit.specs.declared.Emitted.{Emitted}
 use Rattle.emit.specs.declared.Refusal.the-variants as R
 use Rattle.emit.specs.Emit.{emptyRun, pushed, appended, emitted}
 use Rattle.encoder.specs.Coded.{planAnswer, coded}
+use Rattle.encoder.specs.Lengths.{lengthOf}
 use Rattle.encoder.proofs.Tied.{tied}
 
 -- ---- question 1, then the plan
@@ -101,6 +102,10 @@ module _ (d : Emitted) where
   refused-by (refused x) e hd nd = cc
   refused-by (bytes bs) e hd nd = let z : _≡_ {A = ℕ} 0 1 = cc in absurd (omega arith)
 
+  length-by : (a : Answer) → Short a → d ≡ emitted emptyRun a → d .refusal ≡ R.None → N.Length (d .run .len) ≡ lengthOf a
+  length-by (refused e) sh hd nd = let z : _≡_ {A = ℕ} 0 1 = cc in absurd (omega arith)
+  length-by (bytes bs) sh hd nd = rw (hd, all-holds bs sh .count)
+
   out-by : (span : Span) (s : List ℕ) (a : Answer) (x : List ℕ) (t : Bool) → Short a → d ≡ emitted emptyRun a → d .refusal ≡ R.None
       → t ≡ leb (d .run .len) (length s)
       → x ≡ pick (leb (d .run .len) (length s)) (take (d .run .len) (d .run .bytes) ++ drop (d .run .len) s) s
@@ -123,6 +128,9 @@ module _ (insn : InstructionData) (off : ℕ) (h : off < 65536) (d : Emitted) (h
 
   pub is-refused : (e : EncodeError) → d .refusal ≡ R.Because e → answer insn off ≡ refused e
   is-refused e nd = refused-by d (answer insn off) e hd nd
+
+  pub length-ok : d .refusal ≡ R.None → N.Length (d .run .len) ≡ lengthOf (answer insn off)
+  length-ok nd = length-by d (answer insn off) short-answer hd nd
 
   pub out-ok : (s x : List ℕ) (t : Bool) → d .refusal ≡ R.None
       → t ≡ leb (d .run .len) (length s)

@@ -10,6 +10,7 @@ ghost use Rattle.answers.specs.Answer.{answer, outcome, sliceAfter};
 ghost use Rattle.answers.specs.Answer as Answers;
 ghost use Rattle.emit.specs.Emit.{emptyRun, emitted};
 ghost use Rattle.encoder.specs.Coded.{coded, planAnswer};
+ghost use Rattle.encoder.specs.Lengths.{lengthOf};
 use emit::ByteRun;
 use emit::Emitted;
 use emit::Refusal;
@@ -87,6 +88,19 @@ pub fn run_of(insn: InstructionData, offset: u16) -> Emitted
         }
     } else {
         refused(EncodeError::NotWellFormed(dst_span))
+    }
+}
+
+// What encode answers where the slice is long enough.
+pub fn encoded_length(insn: InstructionData, offset: u16) -> Encoded
+    ensures { λ r. ⌜ r ≡ lengthOf (answer insn offset) ⌝ }
+{
+    let done = run_of(insn, offset);
+    let refusal = done.refusal;
+    let run = done.run;
+    match refusal {
+        Refusal::Because(e) => Encoded::Refused(e),
+        Refusal::None => Encoded::Length(run.len),
     }
 }
 

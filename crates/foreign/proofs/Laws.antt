@@ -1,0 +1,77 @@
+-- Laws of the report's bytes.
+-- Assumes nothing.
+use mathlib.Core.Path.{_≡_, refl}
+use mathlib.Core.List.{List, [], _∷_, _++_}
+use Prim.Native.Nat.{ℕ, suc, _+_, _-_, _≤_}
+use native.Mathlib.Omega.{arith}
+use mathlib.Core.Bool.{true, false}
+use lib.Dec.{eqb}
+use lib.IntN.{ℤ, pos, negsuc, natAbs, _-ℤ_}
+use lib.Signed.{ltZ}
+use lib.ListN.{length, set}
+use lib.Seq.{sets, sets-eq}
+use mir.Syntax.{w32}
+use mir.Val.{SFits, toZ, ofZ}
+use Rattle.mrc_compiler.specs.Values.{modZ}
+use Rattle.foreign.specs.declared.report.Told.{Told}
+use Rattle.foreign.specs.Crossing.{u32Bytes, bits, threeBytes, reportBytes, reportAfter}
+use Rattle.records.specs.Record.{codesKnown, instructionAt}
+use Rattle.foreign.specs.EncodeRecord.{wrong-length, unknown-code, of, recordOf}
+use Rattle.values.proofs.Laws.{flip-cast, keep-cast, low-negative, low-from-zero}
+use borrow.Author.Tests.{le-leb}
+
+-- ---- bytes one behind the other
+pub four-set : (s : List ℕ) (at a b c d : ℕ) → set (set (set (set s at a) (at + 1) b) (at + 2) c) (at + 3) d ≡ sets s at (a ∷ b ∷ c ∷ d ∷ [])
+four-set s at a b c d =
+    let e : at + 1 ≡ suc at = omega arith in
+    let f : at + 2 ≡ suc (suc at) = omega arith in
+    let g : at + 3 ≡ suc (suc (suc at)) = omega arith in
+    rw (e, f, g)
+
+pub sets-sets : (s : List ℕ) (at next : ℕ) (xs ys : List ℕ) → next ≡ at + length xs → sets (sets s at xs) next ys ≡ sets s at (xs ++ ys)
+sets-sets s at next [] ys e =
+    let f : next ≡ at = omega arith in
+    rw f
+sets-sets s at next (x ∷ xs) ys e = sets-sets (set s at x) (suc at) next xs ys (omega arith)
+
+-- what put_u32 leaves, three times
+pub three : (s l m n : List ℕ) (at a b c : ℕ) → l ≡ sets s at (u32Bytes a) → m ≡ sets l (at + 4) (u32Bytes b) → n ≡ sets m (at + 8) (u32Bytes c)
+    → n ≡ sets s at (threeBytes a b c)
+unfolding u32Bytes
+three s l m n at a b c d e f =
+    rw (f, e, d, sets-sets s at (at + 4) (u32Bytes a) (u32Bytes b) refl, sets-sets s at (at + 8) (u32Bytes a ++ u32Bytes b) (u32Bytes c) refl)
+
+-- what put_three leaves, twice
+pub twice : (t : Told) (s l m : List ℕ) → 24 ≤ length s → l ≡ sets s 0 (threeBytes (t .length) (t .span .start) (t .span .end))
+    → m ≡ sets l 12 (threeBytes (bits (t .value)) (bits (t .low)) (bits (t .high)))
+    → m ≡ reportAfter t s
+unfolding u32Bytes
+twice t s l m h d e = rw (le-leb 24 (length s) h, e, d) (sets-eq (reportBytes t) s 0 h)
+
+-- ---- bits_of: what the code subtracts or keeps is below 2^32
+module _ (z : ℤ) (f : SFits w32 z) (t : ltZ (toZ w32 (ofZ w32 z)) (pos 0) ≡ true) where
+  abbrev flipped : ℕ
+  flipped = natAbs (toZ w32 (ofZ w32 (negsuc 0 -ℤ toZ w32 (ofZ w32 z))))
+
+  pub below : flipped ≤ 4294967295
+  below = let h = flip-cast z f t .1 .fits in omega arith
+
+  pub bits-negative : 4294967295 - flipped ≡ modZ 4294967296 z
+  bits-negative = let h = flip-cast z f t .1 .fits in let e = low-negative z f t 4294967296 in omega arith
+
+module _ (z : ℤ) (f : SFits w32 z) (t : ltZ (toZ w32 (ofZ w32 z)) (pos 0) ≡ false) where
+  pub bits-from-zero : natAbs (toZ w32 (ofZ w32 z)) ≡ modZ 4294967296 z
+  bits-from-zero = let h = keep-cast z f t .1 .fits in let e = low-from-zero z f t 4294967296 in omega arith
+
+-- ---- what 56 bytes are
+pub is-wrong : (s : List ℕ) → eqb (length s) 56 ≡ false → recordOf s ≡ wrong-length
+unfolding recordOf
+is-wrong s e = rw e
+
+pub is-unknown : (s : List ℕ) → eqb (length s) 56 ≡ true → codesKnown s ≡ false → recordOf s ≡ unknown-code
+unfolding recordOf
+is-unknown s e u = rw (e, u)
+
+pub is-known : (s : List ℕ) → eqb (length s) 56 ≡ true → codesKnown s ≡ true → recordOf s ≡ of (instructionAt s)
+unfolding recordOf
+is-known s e u = rw (e, u)

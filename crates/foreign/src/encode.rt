@@ -1,0 +1,42 @@
+// One record of a show file, encoded.
+ghost use mathlib.Core.Path.{_≡_};
+ghost use Rattle.foreign.specs.Crossing.{reportAfter};
+ghost use Rattle.foreign.specs.EncodeRecord.{recordOf, toldRecord, outAfter};
+use crate::report::Told;
+use crate::report::told_alone;
+use crate::report::told_encoded;
+use crate::report::write_report;
+
+// Encodes the record into the front of out, and tells the answer.
+fn told_record(rec: &[u8], offset: u16, out: &mut [u8]) -> Told
+    ensures { λ r. ⌜ r ≡ toldRecord (recordOf (now (rec .entry))) offset (now (out .entry)) ⌝ }
+    ensures { λ _. ⌜ now (out .exit) ≡ outAfter (recordOf (now (rec .entry))) offset (now (out .entry)) ⌝ }
+{
+    if rec.len() != records::RECORD_LENGTH {
+        return told_alone(14);
+    }
+    if records::codes_known(rec) {
+        let insn = records::instruction_at(rec);
+        told_encoded(encoder::encode(insn, offset, out))
+    } else {
+        told_alone(15)
+    }
+}
+
+// Encodes a record of a show file at an offset.
+//   rec      the record, 56 bytes
+//   offset   where its bytes are to stand
+//   out      gets the bytes at its front; its later bytes stay, and a refusal leaves it as it was
+//   report   gets, where it has 24 bytes: length, span start, span end (u32), value, low, high (i32), little-endian; its later bytes stay
+//   answer   0, or the refusal's number; 14 where rec is not 56 bytes long, then 15 where one of its codes is unknown
+// In C: uint8_t encode_record(const uint8_t *rec, size_t rec_len, uint16_t offset, uint8_t *out, size_t out_len, uint8_t *report, size_t report_len);
+#[no_mangle]
+pub extern "C" fn encode_record(rec: &[u8], offset: u16, out: &mut [u8], report: &mut [u8]) -> u8
+    ensures { λ r. ⌜ r ≡ toldRecord (recordOf (now (rec .entry))) offset (now (out .entry)) .number ⌝ }
+    ensures { λ _. ⌜ now (out .exit) ≡ outAfter (recordOf (now (rec .entry))) offset (now (out .entry)) ⌝ }
+    ensures { λ _. ⌜ now (report .exit) ≡ reportAfter (toldRecord (recordOf (now (rec .entry))) offset (now (out .entry))) (now (report .entry)) ⌝ }
+{
+    let told = told_record(rec, offset, out);
+    write_report(told, report);
+    told.number
+}

@@ -1,0 +1,43 @@
+use Rattle.loader.proofs.Laws.{opened-exact}
+use denote.Ref.{now}
+use mathlib.Core.Path.{sym, _∙_}
+use borrow.Author.Needs.{needs}
+use Rattle.loader.proofs.load.Statement.{statement}
+use Rattle.loader.proofs.load.Tie as tie
+
+open-requires : tie.Need-open-requires
+open-requires c κs = search needs
+
+enum-known-show : tie.Need-enum-known-show
+enum-known-show c = search needs
+
+enum-known-show-2 : tie.Need-enum-known-show-2
+enum-known-show-2 c = search needs
+
+load-show-requires : tie.Need-load-show-requires
+load-show-requires c κs =
+    let e = opened-exact (now (c .before .before .before .before .before .before .before .args .file)) _ (sym (c .before .before .before .before .«open» .ensures) ∙ c .before .before .show2 .given .1) in
+    (e .its-length, e .its-count)
+
+returns : tie.Need-returns
+returns c = let e = sym (c .before .before .before .«open» .ensures) ∙ c .before .show .given .1 in (rw e, rw e)
+
+same-length : tie.Need-same-length
+same-length c = search needs
+
+returns-2 : tie.Need-returns-2
+returns-2 c =
+    let e = sym (c .before .before .before .before .before .before .before .«open» .ensures) ∙ c .before .before .before .before .before .show2 .given .1 in
+    (rw e (c .before .before .load-show .ensures .0), rw e (c .before .before .load-show .ensures .1))
+
+pub load-spec : {M : Type 1} → statement M
+load-spec =
+    tie.close
+    (tie.spec
+    open-requires
+    enum-known-show
+    enum-known-show-2
+    load-show-requires
+    returns
+    same-length
+    returns-2)

@@ -1,0 +1,109 @@
+-- What loading a show file answers, and what it leaves in the image (document 01, 'Show file' and the loader's questions).
+-- Definitions only.
+use Prim.Native.Nat.{ℕ, zero, suc, _+_, _%_}
+use mathlib.Core.Bool.{Bool, true, false}
+use mathlib.Core.List.{List, [], _++_}
+use lib.Dec.{ltb, leb}
+use lib.ListN.{length, drop}
+use Rattle.mrc_compiler.specs.declared.encoder.EncodeError.{EncodeError}
+use Rattle.mrc_compiler.specs.declared.encoder.EncodeError.the-variants as N
+use Rattle.mrc_compiler.specs.Choose.{pick, isnt}
+use Rattle.mrc_compiler.specs.Refusals.{reportOf}
+use Rattle.answers.specs.Answer.{Answer, bytes, refused, answer}
+use Rattle.records.specs.Record.{codesKnown}
+use Rattle.loader.specs.declared.Header.{Header}
+use Rattle.loader.specs.declared.LoadError.{LoadError}
+use Rattle.loader.specs.declared.LoadError.the-variants as E
+use Rattle.loader.specs.declared.Loaded.{Loaded}
+use Rattle.loader.specs.declared.Loaded.the-variants as L
+use Rattle.loader.specs.declared.Opened.{Opened}
+use Rattle.loader.specs.declared.Opened.the-variants as O
+use Rattle.loader.specs.Show.{opened, recordAt, insnAt}
+
+-- ---- refusals: document 01's number for each case
+abbrev pub numberOf : LoadError → ℕ
+numberOf E.NoMark = 12
+numberOf E.WrongVersion = 13
+numberOf E.WrongLength = 14
+numberOf (E.UnknownCode k) = 15
+numberOf (E.Record k e) = reportOf e .number
+
+-- ---- the records, one after the other
+-- their bytes, or the first that is refused
+pub data Walk : Type 0 where
+  all : List ℕ → Walk
+  stopped : ℕ → EncodeError → Walk
+
+-- the offset behind these bytes, which wraps at 65,536
+abbrev pub offsetBehind : ℕ → List ℕ → ℕ
+offsetBehind origin bs = (origin + length bs) % 65536
+
+-- record k, behind the bytes bs
+abbrev pub followed : ℕ → List ℕ → Answer → Walk
+followed k bs (bytes cs) = all (bs ++ cs)
+followed k bs (refused e) = stopped k e
+
+abbrev pub further : List ℕ → ℕ → ℕ → Walk → Walk
+further file origin k (all bs) = followed k bs (answer (insnAt file k) (offsetBehind origin bs))
+further file origin k (stopped i e) = stopped i e
+
+-- the first n records from the origin on
+unfoldable pub walk : List ℕ → ℕ → ℕ → Walk
+walk file origin zero = all []
+walk file origin (suc k) = further file origin k (walk file origin k)
+
+abbrev pub bytesIn : Walk → List ℕ
+bytesIn (all bs) = bs
+bytesIn (stopped k e) = []
+
+-- ---- the first of records i, i + 1 .. (k of them) where f says yes, or i + k
+abbrev pub firstFrom : (ℕ → Bool) → ℕ → ℕ → ℕ
+firstFrom f zero i = i
+firstFrom f (suc k) i = pick (f i) i (firstFrom f k (suc i))
+
+-- a code that is not known
+unfoldable pub isUnknown : List ℕ → ℕ → Bool
+isUnknown file k = isnt (codesKnown (recordAt file k))
+
+-- an end behind the image's
+unfoldable pub isOver : List ℕ → ℕ → ℕ → ℕ → Bool
+isOver file origin size k = ltb size (length (bytesIn (walk file origin (suc k))))
+
+abbrev pub firstUnknown : List ℕ → ℕ → ℕ
+firstUnknown file n = firstFrom (isUnknown file) n 0
+
+abbrev pub firstOver : List ℕ → ℕ → ℕ → ℕ → ℕ
+firstOver file origin size n = firstFrom (isOver file origin size) n 0
+
+-- ---- the answer
+-- 9, with the first record that does not fit
+abbrev pub tooShort : List ℕ → ℕ → Loaded
+tooShort file k = L.Refused (E.Record k (N.SliceTooShort (insnAt file k .«opers_span»)))
+
+abbrev pub fitted : List ℕ → Header → ℕ → Walk → Loaded
+fitted file h size (stopped k e) = L.Refused (E.Record k e)
+fitted file h size (all bs) =
+    pick (leb (length bs) size) (L.Image h (length bs)) (tooShort file (firstOver file (h .origin) size (h .count)))
+
+-- codes of all records, then each record, then the image
+unfoldable pub showLoaded : List ℕ → Header → ℕ → Loaded
+showLoaded file h size =
+    let k = firstUnknown file (h .count) in
+    pick (ltb k (h .count)) (L.Refused (E.UnknownCode k)) (fitted file h size (walk file (h .origin) (h .count)))
+
+abbrev pub loadedBy : List ℕ → ℕ → Opened → Loaded
+loadedBy file size (O.Show h) = showLoaded file h size
+loadedBy file size (O.Refused e) = L.Refused e
+
+abbrev pub loaded : List ℕ → ℕ → Loaded
+loaded file size = loadedBy file size (opened file)
+
+-- ---- the image afterwards: the records' bytes at the front, or what it was
+abbrev pub placed : List ℕ → List ℕ → Loaded → List ℕ
+placed file image (L.Image h n) =
+    let bs = bytesIn (walk file (h .origin) (h .count)) in
+    bs ++ drop (length bs) image
+placed file image (L.Refused e) = image
+
+abbrev pub imageAfter : List ℕ → List ℕ → List ℕ
+imageAfter file image = placed file image (loaded file (length image))

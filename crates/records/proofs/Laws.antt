@@ -1,0 +1,39 @@
+-- Laws of codes, and of a u32 read as an i32.
+-- Assumes nothing.
+use mathlib.Core.Path.{_≡_, refl, sym, ap, _∙_}
+use mathlib.Core.List.{List}
+use Prim.Native.Nat.{ℕ, zero, suc, _-_, _≤_, _<_}
+use native.Mathlib.Omega.{arith}
+use lib.IntN.{ℤ, pos, negsuc, _-ℤ_}
+use lib.ListN.{length, getD, List·getD-eq-default}
+use mir.Syntax.{w32}
+use mir.Val.{SFits, toZ, ofZ}
+use mir.ValLaws.{toZ-ofZ, toZ-pos}
+use borrow.Author.Tests.{lt-ltb, le-ltb}
+use Rattle.values.specs.Distances.{asI32}
+
+-- ---- codes: n is the byte m that was read
+pub coded : {A : Type 0} (codes : List A) (d : A) {n m : ℕ} → n ≡ m → getD codes n d ≡ getD codes m d
+coded codes d e = ap (λ (k : ℕ). getD codes k d) e
+
+-- a code past the list counts as the first
+pub past : {A : Type 0} (codes : List A) (d : A) {n m : ℕ} → n ≡ m → length codes ≤ n → d ≡ getD codes m d
+past codes d e h = sym (List·getD-eq-default codes d h) ∙ coded codes d e
+
+-- ---- as_i32
+minus : (k : ℕ) → negsuc 0 -ℤ pos k ≡ negsuc k
+minus zero = refl
+minus (suc k) = ap negsuc (omega arith)
+
+pub low-read : (n : ℕ) → n < 2147483648 → toZ w32 n ≡ asI32 n
+low-read n h = rw (toZ-pos w32 n (omega arith), lt-ltb n 2147483648 h)
+
+module _ (n : ℕ) (h : 2147483648 ≤ n) where
+  high-minus : negsuc 0 -ℤ toZ w32 (4294967295 - n) ≡ negsuc (4294967295 - n)
+  high-minus = rw (toZ-pos w32 (4294967295 - n) (omega arith)) (minus (4294967295 - n))
+
+  pub high-fits : SFits w32 (negsuc 0 -ℤ toZ w32 (4294967295 - n))
+  high-fits = rw high-minus (record { sfits = omega arith })
+
+  pub high-read : toZ w32 (ofZ w32 (negsuc 0 -ℤ toZ w32 (4294967295 - n))) ≡ asI32 n
+  high-read = rw (toZ-ofZ w32 (negsuc 0 -ℤ toZ w32 (4294967295 - n)) high-fits, high-minus, le-ltb n 2147483648 h)

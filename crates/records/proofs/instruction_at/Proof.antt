@@ -1,0 +1,34 @@
+use Rattle.records.specs.Record.{instructionAt}
+use borrow.Author.Needs.{needs}
+use Rattle.records.proofs.instruction_at.Statement.{statement}
+use Rattle.records.proofs.instruction_at.Tie as tie
+
+operand-at-requires : tie.Need-operand-at-requires
+operand-at-requires c κs = search needs
+
+operand-at-requires-2 : tie.Need-operand-at-requires-2
+operand-at-requires-2 c κs = search needs
+
+operation-at-requires : tie.Need-operation-at-requires
+operation-at-requires c κs = search needs
+
+byte-at-requires : tie.Need-byte-at-requires
+byte-at-requires c κs = search needs
+
+span-at-requires : tie.Need-span-at-requires
+span-at-requires c κs = search needs
+
+returns : tie.Need-returns
+unfolding instructionAt
+returns c = rw (c .before .before .before .before .operand-at .ensures, c .before .before .before .operand-at2 .ensures, c .before .before .operation-at .ensures, c .before .byte-at .ensures, c .span-at .ensures)
+
+pub instruction-at-spec : {M : Type 1} → statement M
+instruction-at-spec =
+    tie.close
+    (tie.spec
+    operand-at-requires
+    operand-at-requires-2
+    operation-at-requires
+    byte-at-requires
+    span-at-requires
+    returns)

@@ -1,0 +1,326 @@
+// A record of a show file becomes an instruction (document 01, 'Show file').
+ghost use mathlib.Core.Path.{_≡_};
+ghost use Prim.Native.Nat.{_+_, _≤_, _<_};
+ghost use Rattle.values.specs.Distances.{asI32};
+ghost use Rattle.records.specs.Record.{secondPlace, recordLength, byteAt, u32Of, u32At, i32At, spanAt, operationAt, kindAt, sizeAt, jumpKindAt, operandAt, instructionAt, operandKnown, codesKnown};
+use mrc_compiler::ast::Span;
+use mrc_compiler::encoder::InstructionData;
+use mrc_compiler::encoder::JumpKind;
+use mrc_compiler::encoder::OperandData;
+use mrc_compiler::encoder::OperandKind;
+use mrc_compiler::encoder::OperandSize;
+use mrc_compiler::operations::Operation;
+
+// The places of an operand's fields, from its first byte.
+const KIND: usize = 0;
+
+const SIZE: usize = 1;
+
+const PREFIX: usize = 2;
+
+const DISPLACEMENT_SIZE: usize = 3;
+
+const JUMP_KIND: usize = 4;
+
+const MODE: usize = 5;
+
+const RM: usize = 6;
+
+const IMM: usize = 7;
+
+const DISPLACEMENT: usize = 11;
+
+const OPERAND_SPAN: usize = 15;
+
+const OPERAND_LENGTH: usize = 23;
+
+// The places of a record's fields.
+const OPERATION: usize = 0;
+
+const COUNT: usize = 1;
+
+const SPAN: usize = 2;
+
+const FIRST: usize = 10;
+
+const SECOND: usize = FIRST + OPERAND_LENGTH;
+
+pub const RECORD_LENGTH: usize = SECOND + OPERAND_LENGTH;
+
+// What each code of an operation stands for.
+const OPERATIONS: [Operation; 99] = [
+    Operation::MOV,
+    Operation::PUSH,
+    Operation::POP,
+    Operation::XCHG,
+    Operation::IN,
+    Operation::OUT,
+    Operation::XLATB,
+    Operation::LEA,
+    Operation::LDS,
+    Operation::LES,
+    Operation::LAHF,
+    Operation::SAHF,
+    Operation::PUSHF,
+    Operation::POPF,
+    Operation::ADD,
+    Operation::ADC,
+    Operation::INC,
+    Operation::AAA,
+    Operation::DAA,
+    Operation::SUB,
+    Operation::SBB,
+    Operation::DEC,
+    Operation::NEG,
+    Operation::CMP,
+    Operation::AAS,
+    Operation::DAS,
+    Operation::MUL,
+    Operation::IMUL,
+    Operation::AAM,
+    Operation::DIV,
+    Operation::IDIV,
+    Operation::AAD,
+    Operation::CBW,
+    Operation::CWD,
+    Operation::NOT,
+    Operation::SHL,
+    Operation::SHR,
+    Operation::SAR,
+    Operation::ROL,
+    Operation::ROR,
+    Operation::RCL,
+    Operation::RCR,
+    Operation::AND,
+    Operation::TEST,
+    Operation::OR,
+    Operation::XOR,
+    Operation::REP,
+    Operation::REPNE,
+    Operation::MOVSB,
+    Operation::MOVSW,
+    Operation::CMPSB,
+    Operation::CMPSW,
+    Operation::SCASB,
+    Operation::SCASW,
+    Operation::LODSB,
+    Operation::LODSW,
+    Operation::STOSB,
+    Operation::STOSW,
+    Operation::CALL,
+    Operation::JMP,
+    Operation::RET,
+    Operation::JE,
+    Operation::JL,
+    Operation::JLE,
+    Operation::JB,
+    Operation::JBE,
+    Operation::JP,
+    Operation::JO,
+    Operation::JS,
+    Operation::JNE,
+    Operation::JNL,
+    Operation::JNLE,
+    Operation::JNB,
+    Operation::JNBE,
+    Operation::JNP,
+    Operation::JNO,
+    Operation::JNS,
+    Operation::LOOP,
+    Operation::LOOPZ,
+    Operation::LOOPNZ,
+    Operation::JCXZ,
+    Operation::INT,
+    Operation::INT1,
+    Operation::INT3,
+    Operation::INTO,
+    Operation::IRET,
+    Operation::CLC,
+    Operation::CMC,
+    Operation::STC,
+    Operation::CLD,
+    Operation::STD,
+    Operation::CLI,
+    Operation::STI,
+    Operation::HLT,
+    Operation::WAIT,
+    Operation::ESC,
+    Operation::LOCK,
+    Operation::NOP,
+    Operation::SALC,
+];
+
+// The byte at a place, 0 past the end.
+pub fn byte_at(bytes: &[u8], at: usize) -> u8
+    ensures { λ r. ⌜ r ≡ byteAt (now (bytes .entry)) at ⌝ }
+{
+    if at < bytes.len() { bytes[at] } else { 0 }
+}
+
+// The number of four bytes, low byte first.
+fn u32_of(a: u8, b: u8, c: u8, d: u8) -> u32
+    ensures { λ r. ⌜ r ≡ u32Of a b c d ⌝ }
+{
+    (a as u32) + 256 * ((b as u32) + 256 * ((c as u32) + 256 * (d as u32)))
+}
+
+// The u32 at a place. Inside the slice one comparison serves its four bytes.
+fn u32_at(bytes: &[u8], at: usize) -> u32
+    requires { ⌜ at < recordLength ⌝ }
+    ensures { λ r. ⌜ r ≡ u32At (now (bytes .entry)) at ⌝ }
+{
+    if at + 4 <= bytes.len() {
+        u32_of(bytes[at], bytes[at + 1], bytes[at + 2], bytes[at + 3])
+    } else {
+        u32_of(
+            byte_at(bytes, at),
+            byte_at(bytes, at + 1),
+            byte_at(bytes, at + 2),
+            byte_at(bytes, at + 3),
+        )
+    }
+}
+
+// The i32 with the same 32 bits.
+fn as_i32(n: u32) -> i32
+    ensures { λ r. ⌜ r ≡ asI32 n ⌝ }
+{
+    if n < 2147483648 {
+        n as i32
+    } else {
+        -1 - (4294967295 - n) as i32
+    }
+}
+
+// The i32 at a place.
+fn i32_at(bytes: &[u8], at: usize) -> i32
+    requires { ⌜ at < recordLength ⌝ }
+    ensures { λ r. ⌜ r ≡ i32At (now (bytes .entry)) at ⌝ }
+{
+    as_i32(u32_at(bytes, at))
+}
+
+// The span at a place: its start, then its end.
+fn span_at(bytes: &[u8], at: usize) -> Span
+    requires { ⌜ at + 4 < recordLength ⌝ }
+    ensures { λ r. ⌜ r ≡ spanAt (now (bytes .entry)) at ⌝ }
+{
+    Span {
+        start: u32_at(bytes, at),
+        end: u32_at(bytes, at + 4),
+    }
+}
+
+// The operation whose code stands at a place. An unknown code counts as the code 0.
+fn operation_at(bytes: &[u8], at: usize) -> Operation
+    ensures { λ r. ⌜ r ≡ operationAt (now (bytes .entry)) at ⌝ }
+{
+    let n = byte_at(bytes, at) as usize;
+    if n < 99 {
+        OPERATIONS[n]
+    } else {
+        Operation::MOV
+    }
+}
+
+// The kind whose code stands at a place. An unknown code counts as the code 0.
+fn kind_at(bytes: &[u8], at: usize) -> OperandKind
+    ensures { λ r. ⌜ r ≡ kindAt (now (bytes .entry)) at ⌝ }
+{
+    match byte_at(bytes, at) {
+        0 => OperandKind::Imm,
+        1 => OperandKind::Reg,
+        2 => OperandKind::Seg,
+        3 => OperandKind::Mem,
+        _ => OperandKind::Imm,
+    }
+}
+
+// The size whose code stands at a place. An unknown code counts as the code 0.
+fn size_at(bytes: &[u8], at: usize) -> OperandSize
+    ensures { λ r. ⌜ r ≡ sizeAt (now (bytes .entry)) at ⌝ }
+{
+    match byte_at(bytes, at) {
+        0 => OperandSize::Unspecified,
+        1 => OperandSize::Byte,
+        2 => OperandSize::Word,
+        _ => OperandSize::Unspecified,
+    }
+}
+
+// The jump kind whose code stands at a place. An unknown code counts as the code 0.
+fn jump_kind_at(bytes: &[u8], at: usize) -> JumpKind
+    ensures { λ r. ⌜ r ≡ jumpKindAt (now (bytes .entry)) at ⌝ }
+{
+    match byte_at(bytes, at) {
+        0 => JumpKind::None,
+        1 => JumpKind::Far,
+        2 => JumpKind::Near,
+        3 => JumpKind::Short,
+        _ => JumpKind::None,
+    }
+}
+
+// The operand whose first byte stands at a place.
+fn operand_at(bytes: &[u8], at: usize) -> OperandData
+    requires { ⌜ at ≤ secondPlace ⌝ }
+    ensures { λ r. ⌜ r ≡ operandAt (now (bytes .entry)) at ⌝ }
+{
+    OperandData {
+        span: span_at(bytes, at + OPERAND_SPAN),
+        size: size_at(bytes, at + SIZE),
+        kind: kind_at(bytes, at + KIND),
+        segment_prefix: byte_at(bytes, at + PREFIX),
+        imm: i32_at(bytes, at + IMM),
+        displacement: i32_at(bytes, at + DISPLACEMENT),
+        displacement_size: size_at(bytes, at + DISPLACEMENT_SIZE),
+        jmp_kind: jump_kind_at(bytes, at + JUMP_KIND),
+        mode: byte_at(bytes, at + MODE),
+        rm: byte_at(bytes, at + RM),
+    }
+}
+
+// The instruction of a record whose codes are known. An enum that says whether they are cannot hold the operands' array: `codes_known` says it.
+pub fn instruction_at(bytes: &[u8]) -> InstructionData
+    ensures { λ r. ⌜ r ≡ instructionAt (now (bytes .entry)) ⌝ }
+{
+    let first = operand_at(bytes, FIRST);
+    let second = operand_at(bytes, SECOND);
+    InstructionData {
+        operation: operation_at(bytes, OPERATION),
+        num_opers: byte_at(bytes, COUNT),
+        opers: [first, second],
+        opers_span: span_at(bytes, SPAN),
+    }
+}
+
+// Are the codes of the operand at a place known?
+fn operand_known(bytes: &[u8], at: usize) -> bool
+    requires { ⌜ at ≤ secondPlace ⌝ }
+    ensures { λ r. ⌜ r ≡ operandKnown (now (bytes .entry)) at ⌝ }
+{
+    if 4 <= byte_at(bytes, at + KIND) {
+        return false;
+    }
+    if 3 <= byte_at(bytes, at + SIZE) {
+        return false;
+    }
+    if 3 <= byte_at(bytes, at + DISPLACEMENT_SIZE) {
+        return false;
+    }
+    byte_at(bytes, at + JUMP_KIND) < 4
+}
+
+// Are all codes of a record known, those of an operand that is not used too? No: refusal 15.
+pub fn codes_known(bytes: &[u8]) -> bool
+    ensures { λ r. ⌜ r ≡ codesKnown (now (bytes .entry)) ⌝ }
+{
+    if 99 <= byte_at(bytes, OPERATION) {
+        return false;
+    }
+    if operand_known(bytes, FIRST) {
+        operand_known(bytes, SECOND)
+    } else {
+        false
+    }
+}

@@ -1,0 +1,215 @@
+//! One record, both encoders, and the account of it.
+
+use super::answers::{self, Answer, Run};
+use super::differences::{Kind, EMITTED_BEFORE_FAILING, ENTRIES, TODO};
+use super::forms::{self, Tally};
+use super::oracle::{self, Oracle};
+use super::ours;
+use super::records::{hex, Packed, Record, NAMES, OPERATIONS};
+
+/// Failures printed in full; the rest are counted.
+const PRINTED: u64 = 20;
+
+pub struct Comparison {
+    records: u64,
+    alone: u64,
+    calls: u64,
+    failures: u64,
+    last_failed: u64,
+    accepted: Tally,
+    refused: [u64; 256],
+    met: Vec<u64>,
+    /// for each operation the entries that may apply to it
+    entries: Vec<Vec<usize>>,
+}
+
+impl Comparison {
+    pub fn new() -> Comparison {
+        let of = |operation| (0..ENTRIES.len()).filter(|i| ENTRIES[*i].operations.contains(&operation)).collect();
+        Comparison {
+            records: 0,
+            alone: 0,
+            calls: 0,
+            failures: 0,
+            last_failed: 0,
+            accepted: Tally::new(),
+            refused: [0; 256],
+            met: vec![0; ENTRIES.len()],
+            entries: (0..OPERATIONS).map(of).collect(),
+        }
+    }
+
+    /// Compares where the record is well formed; where not, ours is asked alone: document 01 says what it must answer.
+    pub fn visit(&mut self, record: Record, offset: u16) {
+        let record = record.with_spans(self.records + self.alone);
+        if !record.codes_known() {
+            self.alone += 1;
+            self.ask_ours(&record, offset, answers::refused(15, (0, 0)), None);
+        } else if let Some(span) = record.ill_formed() {
+            self.alone += 1;
+            self.ask_ours(&record, offset, answers::refused(8, span), None);
+        } else {
+            self.records += 1;
+            let theirs = oracle::ask(&record, offset);
+            let expected = self.expected(&record, offset, &theirs);
+            self.ask_ours(&record, offset, expected, Some(&theirs));
+        }
+    }
+
+    /// The oracle's answer, or what the entry that applies puts in its place.
+    fn expected(&mut self, record: &Record, offset: u16, theirs: &Oracle) -> Answer {
+        let mut stated = None;
+        let mut explained_todo = false;
+        let mut explained_emitted = false;
+        for i in 0..self.entries[record.operation as usize].len() {
+            let at = self.entries[record.operation as usize][i];
+            let entry = &ENTRIES[at];
+            if !(entry.applies)(record, offset) {
+                continue;
+            }
+            self.met[at] += 1;
+            explained_todo |= entry.id == TODO;
+            explained_emitted |= entry.id == EMITTED_BEFORE_FAILING;
+            let ours = (entry.ours)(record, theirs);
+            if !(entry.theirs)(record, theirs) || (ours != theirs.answer) != (entry.kind == Kind::Answer) {
+                let text = format!("{}: 000 does {} there, ours is stated as {}", entry.id, told(&theirs.answer), told(&ours));
+                self.fail(record, offset, &text);
+            }
+            if stated.is_some_and(|other| other != ours) {
+                self.fail(record, offset, &format!("{}: another entry states another answer", entry.id));
+            }
+            stated = Some(ours);
+        }
+        let emitted = theirs.emitted > 0 && matches!(theirs.answer, Answer::Refused(_));
+        if theirs.panicked != explained_todo || emitted != explained_emitted {
+            self.fail(record, offset, "todo or emitted-before-failing is not where it is listed");
+        }
+        stated.unwrap_or(theirs.answer)
+    }
+
+    fn ask_ours(&mut self, record: &Record, offset: u16, expected: Answer, theirs: Option<&Oracle>) {
+        match &expected {
+            Answer::Bytes(run) => self.accepted.add(run),
+            Answer::Refused(refusal) => self.refused[refusal.number as usize] += 1,
+        }
+        let packed = record.pack();
+        let n = self.records + self.alone;
+        // The longest slice shows the run; the others in turn, and all of them on every 64th record.
+        let turn = (n % ours::LONGEST as u64) as usize;
+        self.at_length(record, &packed, offset, ours::LONGEST, expected, theirs);
+        if n % 64 == 0 {
+            for slice in 0..ours::LONGEST {
+                self.at_length(record, &packed, offset, slice, expected, theirs);
+            }
+        } else {
+            self.at_length(record, &packed, offset, turn, expected, theirs);
+        }
+    }
+
+    fn at_length(
+        &mut self,
+        record: &Record,
+        packed: &Packed,
+        offset: u16,
+        slice: usize,
+        expected: Answer,
+        theirs: Option<&Oracle>,
+    ) {
+        let expected = match expected {
+            Answer::Bytes(Run { len, .. }) if len > slice => {
+                self.refused[9] += 1;
+                answers::refused(9, record.span)
+            }
+            other => other,
+        };
+        self.calls += 1;
+        let answer = ours::ask(packed, offset, slice, self.calls);
+        if answer == Ok(expected) {
+            return;
+        }
+        let ours = answer.map_or_else(|wrong| wrong, |answer| told(&answer));
+        let theirs = theirs.map_or("not asked".to_string(), |theirs| told(&theirs.answer));
+        let text = format!("slice {slice}: ours {ours}, expected {}, 000 {theirs}", told(&expected));
+        self.fail(record, offset, &text);
+    }
+
+    fn fail(&mut self, record: &Record, offset: u16, text: &str) {
+        // one record may fail at several slice lengths
+        if self.last_failed != self.records + self.alone {
+            self.last_failed = self.records + self.alone;
+            self.failures += 1;
+        }
+        if self.failures <= PRINTED {
+            let name = NAMES.get(record.operation as usize).unwrap_or(&"?");
+            println!("UNEXPLAINED {name} {} {offset:04X} {text}", hex(&record.pack()));
+        }
+    }
+
+    /// Prints the account. True where nothing failed and everything that must be met was met.
+    pub fn report(&self) -> bool {
+        println!("records compared: {}", self.records);
+        println!("records asked of ours alone: {}", self.alone);
+        println!("calls of ours: {}", self.calls);
+
+        let forms = forms::all();
+        println!("accepted by opcode and /n ({} forms):", forms.len());
+        for line in forms.chunks(8) {
+            let cells: Vec<String> =
+                line.iter().map(|form| format!("{:>5} {:<8}", forms::name(form), self.accepted.count(form))).collect();
+            println!("  {}", cells.join(" ").trim_end());
+        }
+        let mut met = true;
+        for form in forms.iter().filter(|form| self.accepted.count(form) == 0) {
+            println!("NOT MET: form {}", forms::name(form));
+            met = false;
+        }
+        let listed: u64 = forms.iter().map(|form| self.accepted.count(form)).sum();
+        if listed != self.accepted.total() {
+            println!("NOT LISTED: {} accepted runs have no form of document 01", self.accepted.total() - listed);
+            met = false;
+        }
+        let least = forms.iter().min_by_key(|form| self.accepted.count(form)).unwrap();
+        println!("accepted: {}, least {} of {}", listed, self.accepted.count(least), forms::name(least));
+
+        let numbers = [1, 2, 3, 4, 5, 6, 7, 8, 9, 15];
+        let refused: Vec<String> = numbers.iter().map(|n| format!("{n}: {}", self.refused[*n])).collect();
+        println!("refused by number: {}", refused.join(", "));
+        for n in numbers.iter().filter(|n| self.refused[**n] == 0) {
+            println!("NOT MET: refusal {n}");
+            met = false;
+        }
+
+        println!("docs/DIFFERENCES.md by entry:");
+        for (entry, count) in ENTRIES.iter().zip(&self.met) {
+            let kind = match entry.kind {
+                Kind::Answer | Kind::Manner => "difference",
+                Kind::Agrees => "agrees",
+                Kind::Kept => "kept",
+            };
+            println!("  {:<28} {:<10} {}", entry.id, kind, count);
+            if *count == 0 {
+                println!("NOT MET: entry {}", entry.id);
+                met = false;
+            }
+        }
+        if self.failures > 0 || !met {
+            let unmet = if met { "" } else { ", and something that must be met was not" };
+            println!("differential: FAILED, {} records, {} unexplained{unmet}", self.records, self.failures);
+            return false;
+        }
+        println!("differential: {} records, 0 unexplained", self.records);
+        true
+    }
+}
+
+/// An answer with all that is compared: a value or limit that its number does not give is shown too.
+fn told(answer: &Answer) -> String {
+    match answer {
+        Answer::Refused(r)
+            if r.number != 5 && (r.low, r.high) != (0, 0) || !matches!(r.number, 5 | 6) && r.value != 0 =>
+        {
+            format!("({answer}, and value {} limits {} {})", r.value, r.low, r.high)
+        }
+        _ => format!("({answer})"),
+    }
+}
