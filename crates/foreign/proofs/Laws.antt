@@ -8,13 +8,13 @@ use mathlib.Core.Bool.{true, false}
 use lib.Dec.{eqb}
 use lib.IntN.{ℤ, pos, negsuc, natAbs, _-ℤ_}
 use lib.Signed.{ltZ}
-use lib.ListN.{length, set}
+use lib.ListN.{length, drop, set}
 use lib.Seq.{sets, sets-eq}
 use mir.Syntax.{w32}
 use mir.Val.{SFits, toZ, ofZ}
 use Rattle.mrc_compiler.specs.Values.{modZ}
 use Rattle.foreign.specs.declared.report.Told.{Told}
-use Rattle.foreign.specs.Crossing.{u32Bytes, bits, threeBytes, reportBytes, reportAfter}
+use Rattle.foreign.specs.Crossing.{u32Bytes, bits, threeBytes, reportAfter}
 use Rattle.records.specs.Record.{codesKnown, instructionAt}
 use Rattle.foreign.specs.EncodeRecord.{wrong-length, unknown-code, of, recordOf}
 use Rattle.values.proofs.Laws.{flip-cast, keep-cast, low-negative, low-from-zero}
@@ -42,11 +42,17 @@ three s l m n at a b c d e f =
     rw (f, e, d, sets-sets s at (at + 4) (u32Bytes a) (u32Bytes b) refl, sets-sets s at (at + 8) (u32Bytes a ++ u32Bytes b) (u32Bytes c) refl)
 
 -- what put_three leaves, twice
+pub six : (a b c d e f : ℕ) (s l m : List ℕ) → 24 ≤ length s → l ≡ sets s 0 (threeBytes a b c) → m ≡ sets l 12 (threeBytes d e f)
+    → m ≡ (threeBytes a b c ++ threeBytes d e f) ++ drop 24 s
+unfolding u32Bytes
+six a b c d e f s l m h p q = rw (q, p) (sets-eq (threeBytes a b c ++ threeBytes d e f) s 0 h)
+
 pub twice : (t : Told) (s l m : List ℕ) → 24 ≤ length s → l ≡ sets s 0 (threeBytes (t .length) (t .span .start) (t .span .end))
     → m ≡ sets l 12 (threeBytes (bits (t .value)) (bits (t .low)) (bits (t .high)))
     → m ≡ reportAfter t s
-unfolding u32Bytes
-twice t s l m h d e = rw (le-leb 24 (length s) h, e, d) (sets-eq (reportBytes t) s 0 h)
+twice t s l m h d e =
+    rw (le-leb 24 (length s) h)
+    (six (t .length) (t .span .start) (t .span .end) (bits (t .value)) (bits (t .low)) (bits (t .high)) s l m h d e)
 
 -- ---- bits_of: what the code subtracts or keeps is below 2^32
 module _ (z : ℤ) (f : SFits w32 z) (t : ltZ (toZ w32 (ofZ w32 z)) (pos 0) ≡ true) where

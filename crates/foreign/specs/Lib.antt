@@ -1,2 +1,4 @@
 pub mod Crossing
 pub mod EncodeRecord
+pub mod ListRecord
+pub mod ReadBytes

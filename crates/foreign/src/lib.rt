@@ -1,4 +1,6 @@
 // The functions that Rust or C links (`rt staticlib foreign`). A slice crosses as its address and its length, and no two slices of a call may overlap.
 // An answer crosses as its number, with a report beside it.
 pub mod encode;
+pub mod list;
+pub mod read;
 pub mod report;

@@ -118,7 +118,7 @@ fn put_u32(report: &mut [u8], at: usize, n: u32)
 }
 
 // Writes three of them.
-fn put_three(report: &mut [u8], at: usize, a: u32, b: u32, c: u32)
+pub fn put_three(report: &mut [u8], at: usize, a: u32, b: u32, c: u32)
     requires { ⌜ at + 12 ≤ length (now report) ⌝ }
     ensures { λ _. ⌜ now (report .exit) ≡ sets (now (report .entry)) at (threeBytes a b c) ⌝ }
 {

@@ -59,11 +59,11 @@ abbrev pub given : Answer → List ℕ
 given (bytes bs) = bs
 given (refused e) = []
 
-abbrev Short : Answer → Type 0
+abbrev pub Short : Answer → Type 0
 Short (bytes bs) = length bs ≤ 7
 Short (refused e) = Unit {0}
 
-short-by : (insn : InstructionData) (off : ℕ) → off < 65536 → (a : Answer) → answer insn off ≡ a → Short a
+pub short-by : (insn : InstructionData) (off : ℕ) → off < 65536 → (a : Answer) → answer insn off ≡ a → Short a
 short-by insn off h (bytes bs) q = accepted-reads insn off h bs q .short
 short-by insn off h (refused e) q = tt
 
@@ -179,11 +179,11 @@ end-le file origin (suc n) k t h =
 abbrev pub lent : List ℕ → ℕ → List ℕ
 lent image at = take (length image - at) (drop at image)
 
-lent-length : (image : List ℕ) (at : ℕ) → length (lent image at) ≡ length image - at
+pub lent-length : (image : List ℕ) (at : ℕ) → length (lent image at) ≡ length image - at
 lent-length image at = length-take-le (length image - at) (drop at image) (rw (length-drop at image) (omega arith))
 
 -- what a writer leaves there, seen in the whole image
-written : (P B s image : List ℕ) (m : ℕ) → image ≡ P ++ drop (length P) s → length B ≡ m
+pub written : (P B s image : List ℕ) (m : ℕ) → image ≡ P ++ drop (length P) s → length B ≡ m
     → putMid (length P) (length image - length P) image (B ++ drop m (lent image (length P))) ≡ (P ++ B) ++ drop (length (P ++ B)) s
 written P B s image m e l =
     let before : take (length P) image ≡ P = rw e (take-append-seam P (drop (length P) s)) in

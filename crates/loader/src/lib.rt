@@ -153,7 +153,7 @@ fn place_of(k: usize) -> usize
 }
 
 // Record k of n.
-fn insn_at(file: &[u8], n: usize, k: usize) -> InstructionData
+pub fn insn_at(file: &[u8], n: usize, k: usize) -> InstructionData
     requires { ⌜ (length (now file) ≡ recordPlace n) × (n ≤ mostRecords) × (k < n) ⌝ }
     ensures { λ r. ⌜ r ≡ insnAt (now (file .entry)) k ⌝ }
 {
@@ -164,7 +164,7 @@ fn insn_at(file: &[u8], n: usize, k: usize) -> InstructionData
 }
 
 // The first record with a code that is not known, or n.
-fn first_unknown(file: &[u8], n: usize) -> usize
+pub fn first_unknown(file: &[u8], n: usize) -> usize
     requires { ⌜ (length (now file) ≡ recordPlace n) × (n ≤ mostRecords) ⌝ }
     ensures { λ r. ⌜ r ≡ firstUnknown (now (file .entry)) n ⌝ }
 {
@@ -184,7 +184,7 @@ fn first_unknown(file: &[u8], n: usize) -> usize
 }
 
 // The offset of what stands behind so many bytes: it wraps at 65,536.
-fn offset_behind(origin: u16, at: usize) -> u16
+pub fn offset_behind(origin: u16, at: usize) -> u16
     ensures { λ r. ⌜ r ≡ (origin + at) % 65536 ⌝ }
 {
     std::num::wrapping_add_u16(origin, (at % 65536) as u16)

@@ -1,6 +1,7 @@
-// Asks the encoder the records of the files that the gate keeps, and says how many rows there are and which differ. Rows are lines of 224 bytes:
-// record, offset, refusal number (0: accepted), length, span start and end, value, low, high, and bytes, all in hexadecimal and each followed by a
-// blank, then the row's name. bench_sheet.txt has document 01's values (tools/bench_sheet.py writes it), sample.txt the Rust's answers (differential/run sample).
+// Asks encoder and lister the records of the files that the gate keeps, and says how many rows there are and which differ. The encoder's rows are lines of
+// 224 bytes: record, offset, refusal number (0: accepted), length, span start and end, value, low, high, and bytes; the lister's are lines of 352 bytes: record,
+// offset, refusal number, count, and twelve entries. All is hexadecimal and followed by a blank, then comes the row's name. bench_sheet.txt and lists.txt have
+// document 01's values and the manual's (tools/bench_sheet.py writes them), sample.txt the Rust's answers (differential/run sample).
 ghost use mathlib.Core.Path.{_≡_};
 ghost use lib.ListN.{length};
 use libc::STDOUT_FILENO;
@@ -16,6 +17,12 @@ const REPORT: usize = 121;
 
 const BYTES: usize = 175;
 
+const LIST_ROW: usize = 352;
+
+const COUNT: usize = 121;
+
+const ENTRIES: usize = 124;
+
 // What the lent slices hold before.
 const LENT: u8 = 0x55;
 
@@ -25,7 +32,7 @@ fn digit(c: u8) -> u8 {
 
 // The byte that two digits at a place spell, 0 past the end.
 fn byte_at(row: &[u8], at: usize) -> u8 {
-    if at < ROW {
+    if at < LIST_ROW {
         if at + 1 < row.len() {
             return digit(row[at]) % 16 * 16 + digit(row[at + 1]) % 16;
         }
@@ -97,35 +104,81 @@ fn is_as_kept(row: &[u8]) -> bool {
     check::same(&out, &kept)
 }
 
+// Byte i of a slice that holds so many entries, and behind them what it was lent with.
+fn kept_entry_byte(row: &[u8], i: usize, count: u8) -> u8 {
+    if i < 96 {
+        if i < 8 * (count as usize) {
+            return byte_at(row, ENTRIES + 2 * i);
+        }
+    }
+    LENT
+}
+
+fn entries_of(row: &[u8], count: u8) -> [u8; 104]
+    ensures { λ r. ⌜ 104 ≡ length r ⌝ }
+{
+    let mut entries = [LENT; 104];
+    let mut i = 0;
+    while i < 104 {
+        entries[i] = kept_entry_byte(row, i, count);
+        i += 1;
+    }
+    entries
+}
+
+fn is_list_as_kept(row: &[u8]) -> bool {
+    let record = record_of(row);
+    let offset = byte_at(row, OFFSET) as u16 * 256 + byte_at(row, OFFSET + 2) as u16;
+    let mut out = [LENT; 104];
+    let mut report = [LENT; 24];
+    let number = foreign::list::list_record(&record, offset, &mut out, &mut report);
+    if number != byte_at(row, NUMBER) {
+        return false;
+    }
+    let count = byte_at(row, COUNT);
+    if report[0] != count {
+        return false;
+    }
+    let kept = entries_of(row, count);
+    check::same(&out, &kept)
+}
+
 struct Rows {
     rows: u64,
     differing: u64,
     is_at_end: bool,
 }
 
-// One row more, printed where the encoder's answer differs. A row that is cut short differs.
-fn with_next(so_far: Rows, fd: i32) -> Rows {
-    let mut row = [0u8; ROW];
-    let n = io::read_full(fd, &mut row);
+// The answer that a row keeps, by the row's length. A row that is cut short differs.
+fn is_kept(row: &[u8]) -> bool {
+    if row.len() == ROW {
+        return is_as_kept(row);
+    }
+    if row.len() == LIST_ROW {
+        return is_list_as_kept(row);
+    }
+    false
+}
+
+// One row more, printed where the answer differs; an empty one is the end.
+fn with_row(so_far: Rows, row: &[u8]) -> Rows {
     let rows = so_far.rows;
     let differing = so_far.differing;
-    if n == 0 {
+    if row.len() == 0 {
         return Rows {
             rows,
             differing,
             is_at_end: true,
         };
     }
-    if n == ROW {
-        if is_as_kept(&row) {
-            return Rows {
-                rows: std::num::wrapping_add_u64(rows, 1),
-                differing,
-                is_at_end: false,
-            };
-        }
+    if is_kept(row) {
+        return Rows {
+            rows: std::num::wrapping_add_u64(rows, 1),
+            differing,
+            is_at_end: false,
+        };
     }
-    io::write_all(STDOUT_FILENO, &row[..n]);
+    io::write_all(STDOUT_FILENO, row);
     Rows {
         rows: std::num::wrapping_add_u64(rows, 1),
         differing: std::num::wrapping_add_u64(differing, 1),
@@ -133,8 +186,27 @@ fn with_next(so_far: Rows, fd: i32) -> Rows {
     }
 }
 
+fn with_next(so_far: Rows, fd: i32) -> Rows {
+    let mut row = [0u8; ROW];
+    let n = io::read_full(fd, &mut row);
+    with_row(so_far, &row[..n])
+}
+
+fn with_next_list(so_far: Rows, fd: i32) -> Rows {
+    let mut row = [0u8; LIST_ROW];
+    let n = io::read_full(fd, &mut row);
+    with_row(so_far, &row[..n])
+}
+
+fn with_next_of(so_far: Rows, fd: i32, is_list: bool) -> Rows {
+    if is_list {
+        return with_next_list(so_far, fd);
+    }
+    with_next(so_far, fd)
+}
+
 // A proved loop has to end, and nothing says that a file does: it counts down from a number that no file uses up.
-fn all_rows(fd: i32) -> Rows {
+fn all_rows(fd: i32, is_list: bool) -> Rows {
     let mut so_far = Rows {
         rows: 0,
         differing: 0,
@@ -142,19 +214,19 @@ fn all_rows(fd: i32) -> Rows {
     };
     let mut turns = u64::MAX;
     while turns > 0 && !so_far.is_at_end {
-        so_far = with_next(so_far, fd);
+        so_far = with_next_of(so_far, fd, is_list);
         turns -= 1;
     }
     so_far
 }
 
-fn replay(path: &[u8]) {
+fn replay(path: &[u8], is_list: bool) {
     let fd = os::open_read(path);
     if fd < 0 {
         os::fail(path);
         return;
     }
-    let all = all_rows(fd);
+    let all = all_rows(fd, is_list);
     libc::close(fd);
     io::write_all(STDOUT_FILENO, path);
     io::write_all(STDOUT_FILENO, b": ");
@@ -165,6 +237,7 @@ fn replay(path: &[u8]) {
 }
 
 fn main() {
-    replay(b"bench_sheet.txt");
-    replay(b"sample.txt");
+    replay(b"bench_sheet.txt", false);
+    replay(b"sample.txt", false);
+    replay(b"lists.txt", true);
 }

@@ -6,16 +6,16 @@ use Rattle.vectors.proofs.all_rows.Statement.{statement}
 use Rattle.vectors.proofs.all_rows.Tie as tie
 
 abbrev Inv-loop : tie.InvT-loop
-Inv-loop fd so-far₀ turns₀ so-far turns = Unit {0}
+Inv-loop fd is-list so-far₀ turns₀ so-far turns = Unit {0}
 
 abbrev μ-loop : tie.MeasureT-loop
-μ-loop fd so-far₀ turns₀ so-far turns = turns
+μ-loop fd is-list so-far₀ turns₀ so-far turns = turns
 
 loop-holds : tie.Need-loop-holds Inv-loop μ-loop
 loop-holds c = search needs
 
-with-next-requires : tie.Need-with-next-requires Inv-loop μ-loop
-with-next-requires c κs = search needs
+with-next-of-requires : tie.Need-with-next-of-requires Inv-loop μ-loop
+with-next-of-requires c κs = search needs
 
 sub-turns : tie.Need-sub-turns Inv-loop μ-loop
 sub-turns c = search needs
@@ -39,7 +39,7 @@ all-rows-spec =
     Inv-loop
     μ-loop
     loop-holds
-    with-next-requires
+    with-next-of-requires
     sub-turns
     loop-less
     loop-again

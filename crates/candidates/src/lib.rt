@@ -1,0 +1,237 @@
+// The twelve candidates of an instruction's listing, each as a run of bytes.
+ghost use mathlib.Core.Path.{_≡_};
+ghost use Prim.Native.Nat.{_%_, _/_, _≤_};
+ghost use Rattle.x86.specs.Reading.{displacementLength};
+ghost use Rattle.emit.specs.Emit.{emptyRun, appended};
+ghost use Rattle.listing.specs.Operands.{prefixIn, displacementIn, valueIn, farSegmentIn, prefixOf, displacementOf, valueOf, farSegmentOf};
+ghost use Rattle.listing.specs.Candidates.{byteOf, displacementBytes, secondBytes, distance, tailBytes, stringOf, candidate};
+use emit::ByteRun;
+use listing::Second;
+use listing::Start;
+use listing::Tail;
+use mrc_compiler::encoder::segment_prefix_for;
+use x86::Instruction;
+use x86::Operand;
+
+// ---- the numbers of an instruction
+
+// The prefix of the segment that memory is in; 0 for another operand.
+pub fn prefix_in(oper: Operand) -> u8
+    ensures { λ r. ⌜ r ≡ prefixIn oper ⌝ }
+{
+    match oper {
+        Operand::None => 0,
+        Operand::Register(_) => 0,
+        Operand::SegmentRegister(_) => 0,
+        Operand::Memory(_, _, s) => segment_prefix_for(s),
+        Operand::Immediate(_) => 0,
+        Operand::Near(_) => 0,
+        Operand::Far(_, _) => 0,
+        Operand::One => 0,
+    }
+}
+
+pub fn displacement_in(oper: Operand) -> u16
+    ensures { λ r. ⌜ r ≡ displacementIn oper ⌝ }
+{
+    match oper {
+        Operand::None => 0,
+        Operand::Register(_) => 0,
+        Operand::SegmentRegister(_) => 0,
+        Operand::Memory(_, d, _) => d,
+        Operand::Immediate(_) => 0,
+        Operand::Near(_) => 0,
+        Operand::Far(_, _) => 0,
+        Operand::One => 0,
+    }
+}
+
+// An immediate, or a target's offset.
+pub fn value_in(oper: Operand) -> u16
+    ensures { λ r. ⌜ r ≡ valueIn oper ⌝ }
+{
+    match oper {
+        Operand::None => 0,
+        Operand::Register(_) => 0,
+        Operand::SegmentRegister(_) => 0,
+        Operand::Memory(_, _, _) => 0,
+        Operand::Immediate(v) => v,
+        Operand::Near(t) => t,
+        Operand::Far(t, _) => t,
+        Operand::One => 0,
+    }
+}
+
+// A far target's segment.
+pub fn far_segment_in(oper: Operand) -> u16
+    ensures { λ r. ⌜ r ≡ farSegmentIn oper ⌝ }
+{
+    match oper {
+        Operand::None => 0,
+        Operand::Register(_) => 0,
+        Operand::SegmentRegister(_) => 0,
+        Operand::Memory(_, _, _) => 0,
+        Operand::Immediate(_) => 0,
+        Operand::Near(_) => 0,
+        Operand::Far(_, s) => s,
+        Operand::One => 0,
+    }
+}
+
+// The sum is the number of the operand that has one.
+fn prefix_of(insn: Instruction) -> u8
+    ensures { λ r. ⌜ r ≡ prefixOf insn ⌝ }
+{
+    let a = insn.first;
+    let b = insn.second;
+    std::num::wrapping_add_u8(prefix_in(a), prefix_in(b))
+}
+
+fn displacement_of(insn: Instruction) -> u16
+    ensures { λ r. ⌜ r ≡ displacementOf insn ⌝ }
+{
+    let a = insn.first;
+    let b = insn.second;
+    std::num::wrapping_add_u16(displacement_in(a), displacement_in(b))
+}
+
+fn value_of(insn: Instruction) -> u16
+    ensures { λ r. ⌜ r ≡ valueOf insn ⌝ }
+{
+    let a = insn.first;
+    let b = insn.second;
+    std::num::wrapping_add_u16(value_in(a), value_in(b))
+}
+
+fn far_segment_of(insn: Instruction) -> u16
+    ensures { λ r. ⌜ r ≡ farSegmentOf insn ⌝ }
+{
+    let a = insn.first;
+    let b = insn.second;
+    std::num::wrapping_add_u16(far_segment_in(a), far_segment_in(b))
+}
+
+// ---- the bytes
+
+// The bytes of displacement that ModRM asks for.
+fn displacement_length(x: u8) -> u8
+    ensures { λ r. ⌜ r ≡ displacementLength (x / 64) (x % 8) ⌝ }
+{
+    if x / 64 == 0 {
+        if x % 8 == 6 {
+            return 2;
+        }
+        return 0;
+    }
+    if x / 64 == 1 {
+        return 1;
+    }
+    if x / 64 == 2 {
+        return 2;
+    }
+    0
+}
+
+// A displacement of n bytes.
+fn push_displacement(run: ByteRun, n: u8, displacement: u16) -> ByteRun
+    ensures { λ r. ⌜ r ≡ appended run (displacementBytes n displacement) ⌝ }
+{
+    if n == 0 {
+        return run;
+    }
+    if n == 1 {
+        return emit::push(run, (displacement % 256) as u8);
+    }
+    emit::push_word(run, displacement)
+}
+
+// The second byte, with the displacement where it is ModRM.
+fn push_second(run: ByteRun, second: Second, displacement: u16) -> ByteRun
+    ensures { λ r. ⌜ r ≡ appended run (secondBytes second displacement) ⌝ }
+{
+    match second {
+        Second::None => run,
+        Second::ModRm(x) => {
+            let next = emit::push(run, x);
+            push_displacement(next, displacement_length(x), displacement)
+        }
+        Second::Fixed(x) => emit::push(run, x),
+    }
+}
+
+// The distance to the target from the end of n bytes at an offset.
+fn distance_from(target: u16, offset: u16, n: u16) -> u16
+    requires { ⌜ n ≤ 3 ⌝ }
+    ensures { λ r. ⌜ r ≡ distance target offset n ⌝ }
+{
+    std::num::wrapping_sub_u16(target, std::num::wrapping_add_u16(offset, n))
+}
+
+// What the instruction ends with.
+fn push_tail(
+    run: ByteRun,
+    tail: Tail,
+    offset: u16,
+    displacement: u16,
+    value: u16,
+    segment: u16,
+) -> ByteRun
+    ensures { λ r. ⌜ r ≡ appended run (tailBytes tail offset displacement value segment) ⌝ }
+{
+    match tail {
+        Tail::None => run,
+        Tail::Byte => emit::push(run, (value % 256) as u8),
+        Tail::Word => emit::push_word(run, value),
+        Tail::Near8 => {
+            let d = distance_from(value, offset, 2);
+            emit::push(run, (d % 256) as u8)
+        }
+        Tail::Near16 => {
+            let d = distance_from(value, offset, 3);
+            emit::push_word(run, d)
+        }
+        Tail::Far => {
+            let next = emit::push_word(run, value);
+            emit::push_word(next, segment)
+        }
+        Tail::Address => emit::push_word(run, displacement),
+    }
+}
+
+fn push_opcode(run: ByteRun, opcode: u8) -> ByteRun
+    ensures { λ r. ⌜ r ≡ appended run (byteOf opcode) ⌝ }
+{
+    emit::push(run, opcode)
+}
+
+// The string of an instruction with a prefix (0: none) and a start.
+fn string_run(offset: u16, prefix: u8, start: Start, insn: Instruction) -> ByteRun
+    ensures { λ r. ⌜ r ≡ appended emptyRun (stringOf offset prefix start insn) ⌝ }
+{
+    let opcode = start.opcode;
+    let second = start.second;
+    let tail = start.tail;
+    let displacement = displacement_of(insn);
+    let prefixed = emit::emit_segment_prefix(emit::empty_run(), prefix);
+    let coded = push_opcode(prefixed, opcode);
+    let moded = push_second(coded, second, displacement);
+    push_tail(
+        moded,
+        tail,
+        offset,
+        displacement,
+        value_of(insn),
+        far_segment_of(insn),
+    )
+}
+
+// Candidate i, below 12.
+pub fn candidate_run(offset: u16, insn: Instruction, i: u8) -> ByteRun
+    ensures { λ r. ⌜ r ≡ appended emptyRun (candidate offset insn i) ⌝ }
+{
+    let start = starts::start_of(insn, i / 3 % 2, i % 3);
+    if i < 6 {
+        return string_run(offset, 0, start, insn);
+    }
+    string_run(offset, prefix_of(insn), start, insn)
+}

@@ -1,0 +1,3 @@
+pub mod Tests
+pub mod Walk
+pub mod Listed

@@ -1,0 +1,134 @@
+// The instruction at the front of some bytes.
+ghost use mathlib.Core.Path.{_≡_};
+ghost use Prim.Native.Nat.{_≤_};
+ghost use mathlib.Core.List.{_++_};
+ghost use lib.ListN.{length, drop};
+ghost use Rattle.listing.specs.Operands.{sizeNumber};
+ghost use Rattle.reader.specs.Answer.{decoded};
+ghost use Rattle.foreign.specs.ReadBytes.{segmentIn, extensionNumber, headOf, operandHead, operandValues, readBytes, readNumber, readAfter};
+use crate::report::put_three;
+use mrc_compiler::ast::Segment;
+use mrc_compiler::encoder::OperandSize;
+use reader::Decoded;
+use rows::Extension;
+use rows::Form;
+use x86::Instruction;
+use x86::Operand;
+
+// The segment in effect of memory.
+fn segment_in(oper: Operand) -> u8
+    ensures { λ r. ⌜ r ≡ segmentIn oper ⌝ }
+{
+    match oper {
+        Operand::None => 0,
+        Operand::Register(_) => 0,
+        Operand::SegmentRegister(_) => 0,
+        Operand::Memory(_, _, segment) => match segment {
+            Segment::ES => 0,
+            Segment::CS => 1,
+            Segment::SS => 2,
+            Segment::DS => 3,
+        },
+        Operand::Immediate(_) => 0,
+        Operand::Near(_) => 0,
+        Operand::Far(_, _) => 0,
+        Operand::One => 0,
+    }
+}
+
+fn size_number(size: OperandSize) -> u8
+    ensures { λ r. ⌜ r ≡ sizeNumber size ⌝ }
+{
+    match size {
+        OperandSize::Unspecified => 0,
+        OperandSize::Byte => 1,
+        OperandSize::Word => 2,
+    }
+}
+
+fn extension_number(extension: Extension) -> u8
+    ensures { λ r. ⌜ r ≡ extensionNumber extension ⌝ }
+{
+    match extension {
+        Extension::None => 0,
+        Extension::PlusRegister => 1,
+        Extension::PlusSegment => 2,
+        Extension::ModRm => 3,
+        Extension::Second0A => 4,
+        Extension::Digit(n) => std::num::wrapping_add_u8(8, n),
+    }
+}
+
+fn head_of(insn: Instruction, form: Form, n: usize) -> u32
+    ensures { λ r. ⌜ r ≡ headOf insn form n ⌝ }
+{
+    let operation = insn.operation;
+    let width = insn.width;
+    let opcode = form.opcode;
+    let number = compare::number_of(operation);
+    let size = size_number(width);
+    (n % 256) as u32 + 256 * (number as u32 + 256 * (size as u32 + 256 * (opcode as u32)))
+}
+
+fn operand_head(oper: Operand) -> u32
+    ensures { λ r. ⌜ r ≡ operandHead oper ⌝ }
+{
+    let outline = starts::outline_of(oper);
+    let segment = segment_in(oper);
+    outline.kind as u32 + 256 * (outline.number as u32 + 256 * (segment as u32))
+}
+
+fn operand_values(oper: Operand) -> u32
+    ensures { λ r. ⌜ r ≡ operandValues oper ⌝ }
+{
+    let displacement = candidates::displacement_in(oper);
+    let value = candidates::value_in(oper);
+    let far = candidates::far_segment_in(oper);
+    std::num::wrapping_add_u16(displacement, value) as u32 + 65536 * (far as u32)
+}
+
+// Writes an instruction to the front of out.
+fn write_read(insn: Instruction, form: Form, n: usize, out: &mut [u8])
+    requires { ⌜ 24 ≤ length (now out) ⌝ }
+    ensures { λ _. ⌜ now (out .exit) ≡ readBytes insn form n ++ drop 24 (now (out .entry)) ⌝ }
+{
+    let extension = form.extension;
+    let first = insn.first;
+    let second = insn.second;
+    let head = head_of(insn, form, n);
+    let digit = extension_number(extension) as u32;
+    let a = operand_head(first);
+    let b = operand_values(first);
+    let c = operand_head(second);
+    let d = operand_values(second);
+    put_three(out, 0, head, digit, a);
+    put_three(out, 12, b, c, d)
+}
+
+// Reads one instruction at the front of bytes; what follows it is not looked at.
+//   offset   where the bytes stand: near targets are answered for it
+//   out      gets, where it has 24 bytes and an instruction is read: length, operation (its number in a show file), width (0 none, 1 byte, 2
+//            word), the form's opcode, its extension (0 none, 1 +r, 2 +s, 3 /r, 4 a second byte 0A, 8 + n for /n), three zeros; then for each of
+//            two operands: kind (0 none, 1 register, 2 segment register, 3 memory, 4 immediate, 5 near target, 6 far target, 7 a shift's count of
+//            1), number (the register's, or the base: the r/m number of the address, 8 for none), the segment of memory (0 ES, 1 CS, 2 SS, 3
+//            DS), zero, displacement, immediate or target (u16), a far target's segment (u16). Its later bytes stay
+//   answer   0, or 10 where no instruction begins so, or 11 where one is not complete yet; out then stays as it was
+// In C: uint8_t read_bytes(const uint8_t *bytes, size_t bytes_len, uint16_t offset, uint8_t *out, size_t out_len);
+#[no_mangle]
+pub extern "C" fn read_bytes(bytes: &[u8], offset: u16, out: &mut [u8]) -> u8
+    ensures { λ r. ⌜ r ≡ readNumber (decoded offset (now (bytes .entry))) ⌝ }
+    ensures { λ _. ⌜ now (out .exit) ≡ readAfter (decoded offset (now (bytes .entry))) (now (out .entry)) ⌝ }
+{
+    let read = reader::read(bytes, offset);
+    match read {
+        Decoded::Whole(insn, form, n) => {
+            if out.len() < 24 {
+                return 0;
+            }
+            write_read(insn, form, n, out);
+            0
+        },
+        Decoded::Nothing => 10,
+        Decoded::More => 11,
+    }
+}

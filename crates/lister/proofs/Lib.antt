@@ -1,0 +1,3 @@
+pub mod Runs
+pub mod Accepted
+pub mod Demand3

@@ -1,0 +1,44 @@
+use borrow.Author.Needs.{needs}
+use mathlib.Core.Path.{_≡_, sym}
+use native.Mathlib.Omega.{arith}
+use lib.ListN.{length}
+use lib.Seq.{length-take-le}
+use Rattle.lister.proofs.Runs.{run-short, key-yes, key-no}
+use Rattle.lister.proofs.candidate_key.Statement.{statement}
+use Rattle.lister.proofs.candidate_key.Tie as tie
+
+candidate-run-requires : tie.Need-candidate-run-requires
+candidate-run-requires c κs = search needs
+
+array-share-prefix-bytes : tie.Need-array-share-prefix-bytes
+array-share-prefix-bytes c =
+    let e : length (c .before .candidate-run .result .bytes) ≡ 7 = search needs in
+    omega (arith, run-short (c .before .before .args .offset) (c .before .before .args .insn) (c .before .before .args .i) (c .before .candidate-run .result) (c .before .candidate-run .ensures))
+
+slice-aggregate-read-at : tie.Need-slice-aggregate-read-at
+slice-aggregate-read-at c =
+    let e : length (c .before .before .candidate-run .result .bytes) ≡ 7 = search needs in
+    let h = run-short (c .before .before .before .args .offset) (c .before .before .before .args .insn) (c .before .before .before .args .i) (c .before .before .candidate-run .result) (c .before .before .candidate-run .ensures) in
+    sym (length-take-le (c .before .before .candidate-run .result .len) (c .before .before .candidate-run .result .bytes) (omega arith))
+
+read-at-requires : tie.Need-read-at-requires
+read-at-requires c κs = search needs
+
+is-whole-requires : tie.Need-is-whole-requires
+is-whole-requires c κs = search needs
+
+key-of-requires : tie.Need-key-of-requires
+key-of-requires c κs = run-short (c .before .before .before .before .before .before .args .offset) (c .before .before .before .before .before .before .args .insn) (c .before .before .before .before .before .before .args .i) (c .before .before .before .before .before .candidate-run .result) (c .before .before .before .before .before .candidate-run .ensures)
+
+returns : tie.Need-returns
+returns c =
+    key-yes (c .before .before .before .before .before .before .before .args .offset) (c .before .before .before .before .before .before .before .args .insn) (c .before .before .before .before .before .before .before .args .i) (c .before .before .before .before .before .before .candidate-run .result) (c .before .before .before .before .before .before .candidate-run .ensures) (c .before .before .before .read-at .result) (c .before .before .is-whole .result) (c .key-of .result)
+    (c .before .before .before .read-at .ensures) (c .before .before .is-whole .ensures) (c .before .if1 .taken) (c .key-of .ensures)
+
+returns-2 : tie.Need-returns-2
+returns-2 c =
+    key-no (c .before .before .before .before .before .before .args .offset) (c .before .before .before .before .before .before .args .insn) (c .before .before .before .before .before .before .args .i) (c .before .before .before .before .before .candidate-run .result) (c .before .before .before .before .before .candidate-run .ensures) (c .before .before .read-at .result) (c .before .is-whole .result)
+    (c .before .before .read-at .ensures) (c .before .is-whole .ensures) (c .if1 .left)
+
+pub candidate-key-spec : {M : Type 1} → statement M
+candidate-key-spec = tie.close (tie.spec candidate-run-requires array-share-prefix-bytes slice-aggregate-read-at read-at-requires is-whole-requires key-of-requires returns returns-2)

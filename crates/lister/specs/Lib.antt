@@ -1,0 +1,3 @@
+pub mod Runs
+pub mod Listing
+pub mod Demand3

@@ -1,0 +1,62 @@
+-- The bench sheet's lists (document 01), at every offset. P marks the rows that 01 marks.
+-- Assumes nothing.
+use mathlib.Core.Path.{_≡_, refl}
+use mathlib.Core.List.{List, [], _∷_}
+use Prim.Native.Nat.{ℕ}
+use lib.IntN.{pos}
+use Rattle.mrc_compiler.specs.declared.ast.Span.{Span}
+use Rattle.mrc_compiler.specs.declared.ast.OptionDataSize.the-variants as OD
+use Rattle.mrc_compiler.specs.declared.ast.DataSize.the-variants as D
+use Rattle.mrc_compiler.specs.declared.ast.OptionSegment.the-variants as OG
+use Rattle.mrc_compiler.specs.declared.encoder.OperandData.{OperandData}
+use Rattle.mrc_compiler.specs.declared.encoder.OperandSize.the-variants as S
+use Rattle.mrc_compiler.specs.declared.operations.Operation.{Operation}
+use Rattle.mrc_compiler.specs.declared.operations.Operation.the-variants as Op
+use Rattle.mrc_compiler.specs.Operations.{numberOf}
+use Rattle.mrc_compiler.specs.Builders.{immediateOperand, registerOperand, indirectOperand, twoOperands}
+use Rattle.x86.specs.Forms.{forms}
+use Rattle.x86.specs.Instructions.{canonical}
+use Rattle.x86.specs.Reading.{startingWith, readForm, prefix, reads}
+use Rattle.answers.specs.Groups.{groupOf}
+use Rattle.answers.specs.Meaning.{counted, meant, meaning}
+use Rattle.dispatch.specs.Grouping.{groupedOf}
+use Rattle.listing.specs.Operands.{sameOperand, sameInstruction}
+use Rattle.listing.specs.Starts.{arithmeticImmediate, arithmetic, exchange, single, startIn, startOf}
+use Rattle.listing.specs.Candidates.{stringOf, candidate}
+use Rattle.listing.specs.Entries.{entry, spelled, key, isWhole, readsAs, insert, among, listing}
+
+abbrev span : Span
+span = record { start = 1; end = 9 }
+
+abbrev listed : ℕ → Operation → OperandData → OperandData → List (List ℕ)
+listed off op a b = listing off (meaning (twoOperands span op a b))
+
+pub record Rows (off : ℕ) : Type 0 where
+  -- P
+  pub add-ax-5 : listed off Op.ADD (registerOperand span 0 S.Word) (immediateOperand span (pos 5))
+      ≡ (0x05 ∷ 0x05 ∷ 0x00 ∷ []) ∷ (0x83 ∷ 0xC0 ∷ 0x05 ∷ []) ∷ (0x81 ∷ 0xC0 ∷ 0x05 ∷ 0x00 ∷ []) ∷ []
+  -- P: twelve, with DS's prefix and without
+  pub add-word-bx-5 : listed off Op.ADD (indirectOperand span 7 (pos 0) (OD.Some D.Word) OG.None) (immediateOperand span (pos 5))
+      ≡ (0x83 ∷ 0x07 ∷ 0x05 ∷ [])
+      ∷ (0x3E ∷ 0x83 ∷ 0x07 ∷ 0x05 ∷ [])
+      ∷ (0x81 ∷ 0x07 ∷ 0x05 ∷ 0x00 ∷ [])
+      ∷ (0x83 ∷ 0x47 ∷ 0x00 ∷ 0x05 ∷ [])
+      ∷ (0x3E ∷ 0x81 ∷ 0x07 ∷ 0x05 ∷ 0x00 ∷ [])
+      ∷ (0x3E ∷ 0x83 ∷ 0x47 ∷ 0x00 ∷ 0x05 ∷ [])
+      ∷ (0x81 ∷ 0x47 ∷ 0x00 ∷ 0x05 ∷ 0x00 ∷ [])
+      ∷ (0x83 ∷ 0x87 ∷ 0x00 ∷ 0x00 ∷ 0x05 ∷ [])
+      ∷ (0x3E ∷ 0x81 ∷ 0x47 ∷ 0x00 ∷ 0x05 ∷ 0x00 ∷ [])
+      ∷ (0x3E ∷ 0x83 ∷ 0x87 ∷ 0x00 ∷ 0x00 ∷ 0x05 ∷ [])
+      ∷ (0x81 ∷ 0x87 ∷ 0x00 ∷ 0x00 ∷ 0x05 ∷ 0x00 ∷ [])
+      ∷ (0x3E ∷ 0x81 ∷ 0x87 ∷ 0x00 ∷ 0x00 ∷ 0x05 ∷ 0x00 ∷ [])
+      ∷ []
+  -- P
+  pub xchg-cx-cx : listed off Op.XCHG (registerOperand span 1 S.Word) (registerOperand span 1 S.Word) ≡ (0x87 ∷ 0xC9 ∷ []) ∷ []
+  -- NOP
+  pub xchg-ax-ax : listed off Op.XCHG (registerOperand span 0 S.Word) (registerOperand span 0 S.Word) ≡ (0x90 ∷ []) ∷ (0x87 ∷ 0xC0 ∷ []) ∷ []
+  -- 200 is not a byte that 83 extends
+  pub add-bx-200 : listed off Op.ADD (registerOperand span 3 S.Word) (immediateOperand span (pos 200)) ≡ (0x81 ∷ 0xC3 ∷ 0xC8 ∷ 0x00 ∷ []) ∷ []
+
+pub rows : (off : ℕ) → Rows off
+unfolding forms canonical startingWith readForm prefix reads groupOf counted meant groupedOf sameOperand sameInstruction arithmeticImmediate arithmetic exchange single startIn startOf stringOf candidate entry spelled key isWhole readsAs insert among numberOf
+rows off = record { add-ax-5 = refl; add-word-bx-5 = refl; xchg-cx-cx = refl; xchg-ax-ax = refl; add-bx-200 = refl }

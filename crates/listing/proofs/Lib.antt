@@ -1,0 +1,14 @@
+pub mod ByForm
+pub mod Covered
+pub mod Values
+pub mod Sums
+pub mod Behind
+pub mod Written
+pub mod Found
+pub mod Order
+pub mod Digits
+pub mod Same
+pub mod Exact
+pub mod Short
+pub mod Accepted
+pub mod Cases

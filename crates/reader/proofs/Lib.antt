@@ -1,0 +1,3 @@
+pub mod ByRow
+pub mod Laws
+pub mod Questions

@@ -1,0 +1,52 @@
+-- The reading by rows, as the code does it.
+-- Nobody has to believe it: proofs/ByRow shows that it is the reading by forms.
+-- Definitions only.
+use Prim.Native.Nat.{ℕ}
+use mathlib.Core.Bool.{Bool}
+use mathlib.Core.List.{List, [], _∷_}
+use lib.Dec.{eqb}
+use lib.ListN.{getD}
+use Rattle.mrc_compiler.specs.declared.operations.Operation.{Operation}
+use Rattle.mrc_compiler.specs.Choose.{pick, either}
+use Rattle.x86.specs.declared.Read.{Read}
+use Rattle.x86.specs.declared.Read.the-variants as R
+use Rattle.x86.specs.Reading.{hasSecond, mayNameMemory, readForm}
+use Rattle.x86.specs.Rows.{rows}
+use Rattle.shapes.specs.declared.Found.{Found}
+use Rattle.shapes.specs.declared.Found.the-variants as D
+use Rattle.shapes.specs.declared.Shape.{Shape}
+use Rattle.shapes.specs.Shapes.{shapeNumbered}
+use Rattle.rows.specs.Rows.{noForm, foundAt, extensionAt, shapeForm, anyForm, formAt}
+use Rattle.reader.specs.declared.Decoded.{Decoded}
+use Rattle.reader.specs.Answer.{withForm}
+
+abbrev pub byFound : {A : Type 0} → Found → A → (Operation → A) → A
+byFound D.Unused n f = n
+byFound (D.Is op) n f = f op
+
+unfoldable pub readShape : ℕ → ℕ → Shape → ℕ → ℕ → List ℕ → Read
+readShape off p s c x t = byFound (foundAt s c x) R.Nothing (λ op. readForm off p c x t (shapeForm s op))
+
+unfoldable pub decodedShape : ℕ → ℕ → Shape → ℕ → ℕ → List ℕ → Decoded
+decodedShape off p s c x t = withForm (readShape off p s c x t) (formAt (s .class) c x)
+
+abbrev pub decodedSecond : ℕ → ℕ → Shape → ℕ → List ℕ → Decoded
+decodedSecond off p s c [] = withForm R.More noForm
+decodedSecond off p s c (x ∷ t) = decodedShape off p s c x t
+
+-- may a row of this shape follow the prefix p (0: none)?
+abbrev pub mayFollow : ℕ → Shape → Bool
+mayFollow p s = either (eqb p 0) (mayNameMemory (anyForm s))
+
+abbrev pub decodedBehind : ℕ → ℕ → Shape → ℕ → List ℕ → Decoded
+decodedBehind off p s c t =
+    pick (mayFollow p s)
+    (pick (hasSecond (extensionAt (s .class))) (decodedSecond off p s c t) (decodedShape off p s c 0 t))
+    (withForm R.Nothing noForm)
+
+abbrev pub decodedRow : ℕ → ℕ → ℕ → ℕ → List ℕ → Decoded
+decodedRow off p n c t = pick (eqb n 0) (withForm R.Nothing noForm) (decodedBehind off p (shapeNumbered n) c t)
+
+unfoldable pub decodedOpcode : ℕ → ℕ → List ℕ → Decoded
+decodedOpcode off p [] = withForm R.More noForm
+decodedOpcode off p (c ∷ t) = decodedRow off p (getD rows c 0) c t

@@ -1,0 +1,350 @@
+// Reads the strings of standard input (data/make_rows.py wrote them, with what another disassembler and the manual read there) and
+// compares. Prints each row that differs, the number of rows, and how many differ.
+ghost use mathlib.Core.Path.{_≡_};
+ghost use Prim.Native.Nat.{_<_};
+ghost use lib.ListN.{length};
+use mrc_compiler::ast::Segment;
+use mrc_compiler::encoder::OperandSize;
+use mrc_compiler::operations::Operation;
+use reader::Decoded;
+use reader::Refusal;
+use rows::Extension;
+use x86::Operand;
+
+// An operand in the bytes of a row: kind, number or base, value low and high, segment.
+struct Flat {
+    kind: u8,
+    number: u8,
+    value: u16,
+    other: u8,
+}
+
+fn flattened(kind: u8, number: u8, value: u16, other: u8) -> Flat {
+    Flat {
+        kind,
+        number,
+        value,
+        other,
+    }
+}
+
+fn segment_number(segment: Segment) -> u8 {
+    match segment {
+        Segment::ES => 0,
+        Segment::CS => 1,
+        Segment::SS => 2,
+        Segment::DS => 3,
+    }
+}
+
+fn flat_operand(oper: Operand) -> Flat {
+    match oper {
+        Operand::None => flattened(0, 0, 0, 0),
+        Operand::Register(n) => flattened(1, n, 0, 0),
+        Operand::SegmentRegister(n) => flattened(2, n, 0, 0),
+        Operand::Memory(base, displacement, segment) => flattened(
+            3,
+            base,
+            displacement,
+            segment_number(segment),
+        ),
+        Operand::Immediate(value) => flattened(4, 0, value, 0),
+        Operand::Near(target) => flattened(5, 0, target, 0),
+        Operand::Far(target, segment) => flattened(
+            6,
+            (segment % 256) as u8,
+            target,
+            (segment / 256) as u8,
+        ),
+        Operand::One => flattened(7, 0, 0, 0),
+    }
+}
+
+fn width_number(width: OperandSize) -> u8 {
+    match width {
+        OperandSize::Unspecified => 0,
+        OperandSize::Byte => 1,
+        OperandSize::Word => 2,
+    }
+}
+
+fn extension_number(extension: Extension) -> u8 {
+    match extension {
+        Extension::None => 0,
+        Extension::PlusRegister => 1,
+        Extension::PlusSegment => 2,
+        Extension::ModRm => 3,
+        Extension::Digit(_) => 4,
+        Extension::Second0A => 5,
+    }
+}
+
+fn digit_number(extension: Extension) -> u8 {
+    match extension {
+        Extension::None => 0,
+        Extension::PlusRegister => 0,
+        Extension::PlusSegment => 0,
+        Extension::ModRm => 0,
+        Extension::Digit(n) => n,
+        Extension::Second0A => 0,
+    }
+}
+
+fn refusal_number(refusal: Refusal) -> u8 {
+    match refusal {
+        Refusal::None => 0,
+        Refusal::Is(n) => n,
+    }
+}
+
+fn length_number(n: usize) -> u8 {
+    if n < 256 { n as u8 } else { 0 }
+}
+
+// The place of an operation in 002.
+fn operation_number(operation: Operation) -> u8 {
+    match operation {
+        Operation::MOV => 0,
+        Operation::PUSH => 1,
+        Operation::POP => 2,
+        Operation::XCHG => 3,
+        Operation::IN => 4,
+        Operation::OUT => 5,
+        Operation::XLATB => 6,
+        Operation::LEA => 7,
+        Operation::LDS => 8,
+        Operation::LES => 9,
+        Operation::LAHF => 10,
+        Operation::SAHF => 11,
+        Operation::PUSHF => 12,
+        Operation::POPF => 13,
+        Operation::ADD => 14,
+        Operation::ADC => 15,
+        Operation::INC => 16,
+        Operation::AAA => 17,
+        Operation::DAA => 18,
+        Operation::SUB => 19,
+        Operation::SBB => 20,
+        Operation::DEC => 21,
+        Operation::NEG => 22,
+        Operation::CMP => 23,
+        Operation::AAS => 24,
+        Operation::DAS => 25,
+        Operation::MUL => 26,
+        Operation::IMUL => 27,
+        Operation::AAM => 28,
+        Operation::DIV => 29,
+        Operation::IDIV => 30,
+        Operation::AAD => 31,
+        Operation::CBW => 32,
+        Operation::CWD => 33,
+        Operation::NOT => 34,
+        Operation::SHL => 35,
+        Operation::SHR => 36,
+        Operation::SAR => 37,
+        Operation::ROL => 38,
+        Operation::ROR => 39,
+        Operation::RCL => 40,
+        Operation::RCR => 41,
+        Operation::AND => 42,
+        Operation::TEST => 43,
+        Operation::OR => 44,
+        Operation::XOR => 45,
+        Operation::REP => 46,
+        Operation::REPNE => 47,
+        Operation::MOVSB => 48,
+        Operation::MOVSW => 49,
+        Operation::CMPSB => 50,
+        Operation::CMPSW => 51,
+        Operation::SCASB => 52,
+        Operation::SCASW => 53,
+        Operation::LODSB => 54,
+        Operation::LODSW => 55,
+        Operation::STOSB => 56,
+        Operation::STOSW => 57,
+        Operation::CALL => 58,
+        Operation::JMP => 59,
+        Operation::RET => 60,
+        Operation::JE => 61,
+        Operation::JL => 62,
+        Operation::JLE => 63,
+        Operation::JB => 64,
+        Operation::JBE => 65,
+        Operation::JP => 66,
+        Operation::JO => 67,
+        Operation::JS => 68,
+        Operation::JNE => 69,
+        Operation::JNL => 70,
+        Operation::JNLE => 71,
+        Operation::JNB => 72,
+        Operation::JNBE => 73,
+        Operation::JNP => 74,
+        Operation::JNO => 75,
+        Operation::JNS => 76,
+        Operation::LOOP => 77,
+        Operation::LOOPZ => 78,
+        Operation::LOOPNZ => 79,
+        Operation::JCXZ => 80,
+        Operation::INT => 81,
+        Operation::INT1 => 82,
+        Operation::INT3 => 83,
+        Operation::INTO => 84,
+        Operation::IRET => 85,
+        Operation::CLC => 86,
+        Operation::CMC => 87,
+        Operation::STC => 88,
+        Operation::CLD => 89,
+        Operation::STD => 90,
+        Operation::CLI => 91,
+        Operation::STI => 92,
+        Operation::HLT => 93,
+        Operation::WAIT => 94,
+        Operation::ESC => 95,
+        Operation::LOCK => 96,
+        Operation::NOP => 97,
+        Operation::SALC => 98,
+    }
+}
+
+// What is read, in the bytes of a row.
+fn answer(decoded: Decoded) -> [u8; 17] {
+    let refused = refusal_number(decoded.refusal());
+    match decoded {
+        Decoded::Whole(m, f, n) => {
+            let extension = f.extension;
+            let first = m.first;
+            let second = m.second;
+            let operation = m.operation;
+            let width = m.width;
+            let a = flat_operand(first);
+            let b = flat_operand(second);
+            [
+                refused,
+                length_number(n),
+                operation_number(operation),
+                width_number(width),
+                f.opcode,
+                extension_number(extension),
+                digit_number(extension),
+                a.kind,
+                a.number,
+                (a.value % 256) as u8,
+                (a.value / 256) as u8,
+                a.other,
+                b.kind,
+                b.number,
+                (b.value % 256) as u8,
+                (b.value / 256) as u8,
+                b.other,
+            ]
+        }
+        Decoded::Nothing => [refused, 0, 0, 0, 0, 0, 0, 0, 0, 0, 0, 0, 0, 0, 0, 0, 0],
+        Decoded::More => [refused, 0, 0, 0, 0, 0, 0, 0, 0, 0, 0, 0, 0, 0, 0, 0, 0],
+    }
+}
+
+// The value of a hexadecimal digit; 0 for another byte.
+fn digit(b: u8) -> u8
+    ensures { λ r. ⌜ r < 16 ⌝ }
+{
+    if b < b'0' {
+        return 0;
+    }
+    if b <= b'9' {
+        return b - b'0';
+    }
+    if b < b'A' {
+        return 0;
+    }
+    if b <= b'F' {
+        return b - b'A' + 10;
+    }
+    0
+}
+
+// The i-th byte of a row.
+fn field(line: &[u8; 53], i: usize) -> u8
+    requires { ⌜ i < 26 ⌝ }
+{
+    digit(line[i * 2]) * 16 + digit(line[i * 2 + 1])
+}
+
+// Is the answer the one of the row?
+fn is_expected(line: &[u8; 53], got: &[u8; 17]) -> bool {
+    let mut i = 0;
+    while i < 17 {
+        if field(line, i + 9) != got[i] {
+            return false;
+        }
+        i += 1;
+    }
+    true
+}
+
+// A row's string, with zeros behind it.
+fn string_of(line: &[u8; 53]) -> [u8; 8]
+    ensures { λ r. ⌜ 8 ≡ length r ⌝ }
+{
+    [
+        field(line, 0),
+        field(line, 1),
+        field(line, 2),
+        field(line, 3),
+        field(line, 4),
+        field(line, 5),
+        field(line, 6),
+        field(line, 7),
+    ]
+}
+
+// Its first n bytes, read at offset 0100.
+fn read_front(string: &[u8], n: usize) -> Decoded {
+    if n <= string.len() {
+        return reader::read(&string[0..n], 0x0100);
+    }
+    reader::read(string, 0x0100)
+}
+
+// Is the row's string read as the row says?
+fn agrees(line: &[u8; 53]) -> bool {
+    let string = string_of(line);
+    let n = field(line, 8) as usize;
+    let got = answer(read_front(&string, n));
+    is_expected(line, &got)
+}
+
+struct Counts {
+    rows: u32,
+    differing: u32,
+}
+
+// Reads the rows of standard input and prints those that differ.
+fn compare_rows() -> Counts {
+    let mut line = [0u8; 53];
+    let mut rows: u32 = 0;
+    let mut differing: u32 = 0;
+    let mut left: u32 = 100000;
+    while 0 < left {
+        left -= 1;
+        let n = io::read_full(0, &mut line);
+        if n < 53 {
+            left = 0;
+        } else {
+            rows += 1;
+            if !agrees(&line) {
+                differing += 1;
+                io::write_all(1, &line);
+            }
+        }
+    }
+    Counts { rows, differing }
+}
+
+fn main() {
+    let counts = compare_rows();
+    io::write_all(1, b"rows ");
+    io::print_decimal(1, counts.rows as u64);
+    io::write_all(1, b"\ndiffering ");
+    io::print_decimal(1, counts.differing as u64);
+    io::write_all(1, b"\n");
+}

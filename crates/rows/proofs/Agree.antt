@@ -1,0 +1,209 @@
+-- The code's tables say what the forms say: computed over all first and second bytes, and the rules that it gives.
+-- Assumes nothing.
+use mathlib.Core.Path.{_≡_, refl, subst, ap}
+use Prim.Native.Nat.{ℕ, zero, suc, _+_, _-_, _*_, _≤_, _<_}
+use native.Mathlib.Omega.{arith}
+use native.Mathlib.Nat.{not-suc-le-zero, eq-or-lt-of-le, le-of-suc-le-suc}
+use mathlib.Core.Bool.{Bool, true, false}
+use mathlib.Core.Logic.{⊎-elim}
+use mathlib.Core.List.{List, [], _∷_}
+use lib.Dec.{T, eqb, ltb}
+use lib.ListN.{getD}
+use borrow.Author.Tests.{ltb-true, ltb-false}
+use Rattle.mrc_compiler.specs.declared.operations.Operation.{Operation}
+use Rattle.mrc_compiler.specs.declared.operations.Operation.the-variants as Op
+use Rattle.mrc_compiler.specs.Choose.{pick}
+use Rattle.mrc_compiler.specs.Operations.{numberOf, sameOperation}
+use Rattle.slots.specs.Slots.{slotOf}
+use Rattle.x86.specs.Forms as F
+use Rattle.x86.specs.Reading.{digit, some, startingWith, fitting, hasSecond, mayNameMemory}
+use Rattle.x86.specs.Rows.{asRead, rows}
+use Rattle.x86.proofs.Rows.{empty}
+use Rattle.x86.proofs.Tests.{same, same-is, upTo, upTo-at}
+use Rattle.shapes.specs.declared.Class.{Class}
+use Rattle.shapes.specs.declared.Class.the-variants as K
+use Rattle.shapes.specs.Shapes.{operationNumbered, shapeNumbered}
+use Rattle.rows.specs.declared.Form.{Form}
+use Rattle.shapes.specs.declared.Found.{Found}
+use Rattle.shapes.specs.declared.Found.the-variants as D
+use Rattle.shapes.specs.declared.Shape.{Shape}
+use Rattle.rows.specs.Rows.{nameOf, digitNumbers, groupOf, operationOf, foundOf, slotsFit, foundAt, exchanges, extensionAt, anyForm, formAt}
+
+-- what is said of a first and a second byte: no form, or its operation, its name, whether it has a second byte, its slots as they read
+pub data Said : Type 0 where
+  none : Said
+  one : Operation → Form → Bool → F.Slot → F.Slot → Said
+
+-- by the forms
+abbrev pub seen : List F.Form → Said
+seen [] = none
+seen (f ∷ fs) = one (f .operation) (nameOf f) (hasSecond (f .extension)) (asRead (f .first)) (asRead (f .second))
+
+-- by the row's shape
+abbrev pub saidBy : Shape → ℕ → ℕ → Found → Said
+saidBy s c x D.Unused = none
+saidBy s c x (D.Is op) = one op (formAt (s .class) c x) (hasSecond (extensionAt (s .class))) (slotOf (s .first)) (slotOf (s .second))
+
+abbrev pub said : Shape → ℕ → ℕ → Said
+said s c x = saidBy s c x (foundAt s c x)
+
+-- the values of g below n, the last first
+abbrev table : {A : Type 0} → ℕ → (ℕ → A) → List A
+table zero g = []
+table (suc n) g = g n ∷ table n g
+
+table-at : {A : Type 0} (n : ℕ) (g h : ℕ → A) → table n g ≡ table n h → (k : ℕ) → k < n → g k ≡ h k
+table-at zero g h e k l = absurd (not-suc-le-zero l)
+table-at (suc n) g h e k l = ⊎-elim (λ z. rw z (cc)) (λ l. table-at n g h (cc) k l) (eq-or-lt-of-le (le-of-suc-le-suc l))
+
+-- of each second byte, where there is one
+abbrev saidEach : Shape → ℕ → Bool → List Said
+saidEach s c true = table 256 (said s c)
+saidEach s c false = said s c 0 ∷ []
+
+abbrev seenEach : List F.Form → Bool → List Said
+seenEach fs true = table 256 (λ x. seen (fitting x fs))
+seenEach fs false = seen fs ∷ []
+
+-- of a first byte: whether no form begins, may name memory, has a second byte; and of each second byte
+pub record Row : Type 0 where
+  pub unused : Bool
+  pub memory : Bool
+  pub second : Bool
+  pub each : List Said
+
+abbrev saidOf : ℕ → Shape → ℕ → Row
+saidOf n s c =
+    record {
+      unused = eqb n 0;
+      memory = mayNameMemory (anyForm s);
+      second = hasSecond (extensionAt (s .class));
+      each = saidEach s c (hasSecond (extensionAt (s .class)));
+    }
+
+abbrev seenOf : List F.Form → Row
+seenOf fs =
+    record {
+      unused = empty fs;
+      memory = some mayNameMemory fs;
+      second = some (λ f. hasSecond (f .extension)) fs;
+      each = seenEach fs (some (λ f. hasSecond (f .extension)) fs);
+    }
+
+-- the shape of first byte c
+abbrev pub shapeOf : ℕ → Shape
+shapeOf c = shapeNumbered (getD rows c 0)
+
+abbrev saidRow : ℕ → Row
+saidRow c = saidOf (getD rows c 0) (shapeOf c) c
+
+abbrev seenRow : ℕ → Row
+seenRow c = seenOf (startingWith c)
+
+-- the test, in parts, since memory goes with its size
+rows-0 : table 64 (λ c. saidRow (c + 0)) ≡ table 64 (λ c. seenRow (c + 0))
+unfolding foundAt startingWith F.forms
+rows-0 = refl
+
+rows-4 : table 64 (λ c. saidRow (c + 64)) ≡ table 64 (λ c. seenRow (c + 64))
+unfolding foundAt startingWith F.forms
+rows-4 = refl
+
+rows-8 : table 64 (λ c. saidRow (c + 128)) ≡ table 64 (λ c. seenRow (c + 128))
+unfolding foundAt startingWith F.forms
+rows-8 = refl
+
+rows-C : table 64 (λ c. saidRow (c + 192)) ≡ table 64 (λ c. seenRow (c + 192))
+unfolding foundAt startingWith F.forms
+rows-C = refl
+
+part : (k c : ℕ) → table 64 (λ i. saidRow (i + k)) ≡ table 64 (λ i. seenRow (i + k)) → k ≤ c → c < k + 64 → saidRow c ≡ seenRow c
+part k c e l h =
+    let d : (c - k) + k ≡ c = omega arith in
+    subst (λ (j : ℕ). saidRow j ≡ seenRow j) d (table-at 64 (λ i. saidRow (i + k)) (λ i. seenRow (i + k)) e (c - k) (omega arith))
+
+row-agrees : (c : ℕ) → c < 256 → saidRow c ≡ seenRow c
+row-agrees c h = go (ltb c 64) (ltb c 128) (ltb c 192) refl refl refl
+  where
+    go : (i j k : Bool) → ltb c 64 ≡ i → ltb c 128 ≡ j → ltb c 192 ≡ k → saidRow c ≡ seenRow c
+    go true j k p q r = part 0 c rows-0 (omega arith) (ltb-true c 64 p)
+    go false true k p q r = part 64 c rows-4 (ltb-false c 64 p) (ltb-true c 128 q)
+    go false false true p q r = part 128 c rows-8 (ltb-false c 128 q) (ltb-true c 192 r)
+    go false false false p q r = part 192 c rows-C (ltb-false c 192 r) (omega arith)
+
+-- ---- the rules
+-- of a first byte, with the forms that begin with it
+pub record Agrees (c : ℕ) (n : ℕ) (s : Shape) (fs : List F.Form) : Type 0 where
+  pub unused : eqb n 0 ≡ empty fs
+  pub memory : mayNameMemory (anyForm s) ≡ some mayNameMemory fs
+  pub second : hasSecond (extensionAt (s .class)) ≡ some (λ f. hasSecond (f .extension)) fs
+  pub with-second : (x : ℕ) → x < 256 → some (λ f. hasSecond (f .extension)) fs ≡ true → said s c x ≡ seen (fitting x fs)
+  pub without : some (λ f. hasSecond (f .extension)) fs ≡ false → said s c 0 ≡ seen fs
+
+agreed : (c n : ℕ) (s : Shape) (fs : List F.Form) → saidOf n s c ≡ seenOf fs → Agrees c n s fs
+agreed c n s fs e =
+    record {
+      unused = ap (λ (r : Row). r .unused) e;
+      memory = ap (λ (r : Row). r .memory) e;
+      second = ap (λ (r : Row). r .second) e;
+      with-second = λ x h z. table-at 256 (said s c) (λ x. seen (fitting x fs)) (one-true (hasSecond (extensionAt (s .class))) (some (λ f. hasSecond (f .extension)) fs) (ap (λ (r : Row). r .second) e) z (ap (λ (r : Row). r .each) e)) x h;
+      without = λ z. one-false (hasSecond (extensionAt (s .class))) (some (λ f. hasSecond (f .extension)) fs) (ap (λ (r : Row). r .second) e) z (ap (λ (r : Row). r .each) e);
+    }
+  where
+    one-true : (a b : Bool) → a ≡ b → b ≡ true → saidEach s c a ≡ seenEach fs b → table 256 (said s c) ≡ table 256 (λ x. seen (fitting x fs))
+    one-true true true p q e = e
+    one-true true false p q e = cc
+    one-true false true p q e = cc
+    one-true false false p q e = cc
+
+    one-false : (a b : Bool) → a ≡ b → b ≡ false → saidEach s c a ≡ seenEach fs b → said s c 0 ≡ seen fs
+    one-false true true p q e = cc
+    one-false true false p q e = cc
+    one-false false true p q e = cc
+    one-false false false p q e = cc
+
+-- each row agrees with the forms
+pub agrees : (c : ℕ) → c < 256 → Agrees c (getD rows c 0) (shapeOf c) (startingWith c)
+agrees c h = agreed c (getD rows c 0) (shapeOf c) (startingWith c) (row-agrees c h)
+
+-- ---- XCHG by its first bytes
+abbrev foundOk : ℕ → Found → Bool
+foundOk c D.Unused = true
+foundOk c (D.Is op) = same (sameOperation op Op.XCHG) (exchanges c)
+
+abbrev classOk : ℕ → Class → Bool
+classOk c K.Unused = true
+classOk c K.Plain = foundOk c (operationOf c)
+classOk c K.PlusRegister = foundOk c (operationOf c)
+classOk c K.PlusSegment = foundOk c (operationOf c)
+classOk c K.ModRm = foundOk c (operationOf c)
+classOk c K.Digit = upTo 8 (λ d. foundOk c (operationNumbered (getD digitNumbers (groupOf c * 8 + d) 0)))
+classOk c K.Second0A = foundOk c (operationOf c)
+
+classes-ok : T (upTo 256 (λ c. classOk c (shapeOf c .class)))
+unfolding numberOf
+classes-ok = tt
+
+found-ok : (k : Class) (c x : ℕ) → T (classOk c k) → T (foundOk c (foundOf k c x))
+found-ok K.Unused c x t = tt
+found-ok K.Plain c x t = t
+found-ok K.PlusRegister c x t = t
+found-ok K.PlusSegment c x t = t
+found-ok K.ModRm c x t = t
+found-ok K.Digit c x t = upTo-at 8 (λ d. foundOk c (operationNumbered (getD digitNumbers (groupOf c * 8 + d) 0))) t (digit x) (omega arith)
+found-ok K.Second0A c x t = go (eqb x 0x0A)
+  where
+    go : (b : Bool) → T (foundOk c (pick b (operationOf c) D.Unused))
+    go true = t
+    go false = tt
+
+-- the operation found is XCHG just where the first byte is one of XCHG's
+pub settles : (c x : ℕ) (op : Operation) → c < 256 → foundAt (shapeOf c) c x ≡ D.Is op → sameOperation op Op.XCHG ≡ exchanges c
+unfolding foundAt
+settles c x op h e =
+    let t : T (foundOk c (D.Is op)) = rw e at (go (slotsFit (shapeOf c) x)) in
+    same-is (sameOperation op Op.XCHG) (exchanges c) t
+  where
+    go : (b : Bool) → T (foundOk c (pick b (foundOf (shapeOf c .class) c x) D.Unused))
+    go true = found-ok (shapeOf c .class) c x (upTo-at 256 (λ c. classOk c (shapeOf c .class)) classes-ok c h)
+    go false = tt

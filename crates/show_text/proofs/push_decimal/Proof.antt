@@ -1,0 +1,54 @@
+use Rattle.show_text.proofs.Laws.{then}
+use Rattle.show_text.specs.Text.{digitFrom, decimal}
+use mathlib.Core.List.{[], _∷_, _++_}
+use Prim.Native.Nat.{_+_, _%_}
+use borrow.Author.Needs.{needs}
+use Rattle.show_text.proofs.push_decimal.Statement.{statement}
+use Rattle.show_text.proofs.push_decimal.Tie as tie
+
+push-digit-requires : tie.Need-push-digit-requires
+push-digit-requires c κs = search needs
+
+push-digit-requires-2 : tie.Need-push-digit-requires-2
+push-digit-requires-2 c κs = search needs
+
+push-digit-requires-3 : tie.Need-push-digit-requires-3
+push-digit-requires-3 c κs = search needs
+
+push-digit-requires-4 : tie.Need-push-digit-requires-4
+push-digit-requires-4 c κs = search needs
+
+cast-push : tie.Need-cast-push
+cast-push c = search needs
+
+add-push : tie.Need-add-push
+add-push c = search needs
+
+push-requires : tie.Need-push-requires
+push-requires c κs = search needs
+
+returns : tie.Need-returns
+unfolding decimal
+returns c =
+    let a = c .before .before .before .before .before .args in
+    let units = (0x30 + a .n % 10) ∷ [] in
+    let tens = digitFrom 10 (a .n) ++ units in
+    let hundreds = digitFrom 100 (a .n) ++ tens in
+    let thousands = digitFrom 1000 (a .n) ++ hundreds in
+    then (a .line) (digitFrom 10000 (a .n)) thousands (c .before .before .before .before .push-digit .ensures)
+    (then _ (digitFrom 1000 (a .n)) hundreds (c .before .before .before .push-digit2 .ensures)
+    (then _ (digitFrom 100 (a .n)) tens (c .before .before .push-digit3 .ensures)
+    (then _ (digitFrom 10 (a .n)) units (c .before .push-digit4 .ensures) (c .push .ensures))))
+
+pub push-decimal-spec : {M : Type 1} → statement M
+push-decimal-spec =
+    tie.close
+    (tie.spec
+    push-digit-requires
+    push-digit-requires-2
+    push-digit-requires-3
+    push-digit-requires-4
+    cast-push
+    add-push
+    push-requires
+    returns)

@@ -1,0 +1,34 @@
+use Rattle.show_text.proofs.Laws.{then}
+use Rattle.show_text.specs.Text.{hexByte, hexWord}
+use Prim.Native.Nat.{_/_, _%_}
+use borrow.Author.Needs.{needs}
+use Rattle.show_text.proofs.push_hex_word.Statement.{statement}
+use Rattle.show_text.proofs.push_hex_word.Tie as tie
+
+cast-push-hex-byte : tie.Need-cast-push-hex-byte
+cast-push-hex-byte c = search needs
+
+push-hex-byte-requires : tie.Need-push-hex-byte-requires
+push-hex-byte-requires c κs = search needs
+
+cast-push-hex-byte-2 : tie.Need-cast-push-hex-byte-2
+cast-push-hex-byte-2 c = search needs
+
+push-hex-byte-requires-2 : tie.Need-push-hex-byte-requires-2
+push-hex-byte-requires-2 c κs = search needs
+
+returns : tie.Need-returns
+unfolding hexWord
+returns c =
+    let a = c .before .before .args in
+    then (a .line) (hexByte (a .w / 256)) (hexByte (a .w % 256)) (c .before .push-hex-byte .ensures) (c .push-hex-byte2 .ensures)
+
+pub push-hex-word-spec : {M : Type 1} → statement M
+push-hex-word-spec =
+    tie.close
+    (tie.spec
+    cast-push-hex-byte
+    push-hex-byte-requires
+    cast-push-hex-byte-2
+    push-hex-byte-requires-2
+    returns)

@@ -1,0 +1,76 @@
+-- Tests of numbers as rules for search, the table of displacement lengths, the cases of XCHG.
+-- Assumes nothing.
+use mathlib.Core.Path.{_≡_, refl}
+use mathlib.Core.Bool.{Bool, true, false}
+use mathlib.Core.List.{List, [], _∷_}
+use Prim.Native.Nat.{ℕ, _+_, _*_, _<_}
+use lib.Dec.{T, eqb, eqb→eq}
+use lib.ListN.{getD}
+use borrow.Author.Tests.{eq-eqb, ne-eqb, lt-ltb, le-ltb, le-leb, lt-leb}
+use Rattle.mrc_compiler.specs.declared.encoder.OperandSize.{OperandSize}
+use Rattle.mrc_compiler.specs.declared.operations.Operation.{Operation}
+use Rattle.mrc_compiler.specs.declared.operations.Operation.the-variants.{XCHG}
+use Rattle.mrc_compiler.specs.Operations.{sameOperation}
+use Rattle.x86.specs.declared.Operand.{Operand}
+use Rattle.x86.specs.declared.Operand.the-variants as O
+use Rattle.x86.specs.Instructions.{instruction, canonical}
+use Rattle.x86.specs.Reading.{displacementLength}
+use Rattle.x86.proofs.Tests.{upTo, upTo-at}
+use Rattle.slots.specs.declared.Number.the-variants as N
+use Rattle.slots.specs.Slots.{registerIn}
+
+pub ruleset tests = (eq-eqb, ne-eqb, lt-ltb, le-ltb, le-leb, lt-leb)
+
+-- the constant of the code: mode by mode
+abbrev pub lengths : List ℕ
+lengths =
+    0 ∷ 0 ∷ 0 ∷ 0 ∷ 0 ∷ 0 ∷ 2 ∷ 0
+    ∷ 1 ∷ 1 ∷ 1 ∷ 1 ∷ 1 ∷ 1 ∷ 1 ∷ 1
+    ∷ 2 ∷ 2 ∷ 2 ∷ 2 ∷ 2 ∷ 2 ∷ 2 ∷ 2
+    ∷ 0 ∷ 0 ∷ 0 ∷ 0 ∷ 0 ∷ 0 ∷ 0 ∷ 0 ∷ []
+
+agrees : ℕ → ℕ → Bool
+agrees mode rm = eqb (getD lengths (mode * 8 + rm) 0) (displacementLength mode rm)
+
+all-agree : T (upTo 4 (λ mode. upTo 8 (agrees mode)))
+unfolding agrees
+all-agree = tt
+
+-- the table agrees with the manual's rule
+pub length-at : (mode rm : ℕ) → mode < 4 → rm < 8 → getD lengths (mode * 8 + rm) 0 ≡ displacementLength mode rm
+unfolding agrees
+length-at mode rm m r = eqb→eq _ _ (upTo-at 8 (agrees mode) (upTo-at 4 (λ mode. upTo 8 (agrees mode)) all-agree mode m) rm r)
+
+-- ---- XCHG, by which of its operands are registers
+pub is-register : (a : Operand) (m : ℕ) → registerIn a ≡ N.Is m → a ≡ O.Register m
+is-register O.None m e = cc
+is-register (O.Register n) m e = cc
+is-register (O.SegmentRegister n) m e = cc
+is-register (O.Memory b d s) m e = cc
+is-register (O.Immediate v) m e = cc
+is-register (O.Near v) m e = cc
+is-register (O.Far v s) m e = cc
+is-register O.One m e = cc
+
+module _ (op : Operation) (w : OperandSize) (x : sameOperation op XCHG ≡ true) where
+  pub none-first : (a k : Operand) → registerIn a ≡ N.None → canonical op w a k ≡ instruction op w k a
+  unfolding canonical
+  none-first O.None k e = rw x
+  none-first (O.Register n) k e = cc
+  none-first (O.SegmentRegister n) k e = rw x
+  none-first (O.Memory b d s) k e = rw x
+  none-first (O.Immediate v) k e = rw x
+  none-first (O.Near v) k e = rw x
+  none-first (O.Far v s) k e = rw x
+  none-first O.One k e = rw x
+
+  pub none-second : (m : ℕ) (a : Operand) → registerIn a ≡ N.None → canonical op w (O.Register m) a ≡ instruction op w (O.Register m) a
+  unfolding canonical
+  none-second m O.None e = rw x
+  none-second m (O.Register n) e = cc
+  none-second m (O.SegmentRegister n) e = rw x
+  none-second m (O.Memory b d s) e = rw x
+  none-second m (O.Immediate v) e = rw x
+  none-second m (O.Near v) e = rw x
+  none-second m (O.Far v s) e = rw x
+  none-second m O.One e = rw x

@@ -1,0 +1,415 @@
+// The starts of an instruction's strings, group by group of document 01's code list.
+ghost use mathlib.Core.Path.{_≡_};
+ghost use Rattle.listing.specs.declared.Second.the-variants.{Fixed};
+ghost use Rattle.listing.specs.declared.Tail.the-variants.{None};
+ghost use Rattle.listing.specs.Operands.{outlineOf};
+ghost use Rattle.listing.specs.Starts.{start, bare, sized, immediate, plus, modrm, withRm, arithmeticImmediate, arithmetic, unary, incDec, moveImmediate, moveFrom, moveInto, move, exchange, stack, load, shift, call, jump, single, port, startIn, startOf};
+use dispatch::Group;
+use listing::Outline;
+use listing::Second;
+use listing::Start;
+use listing::Tail;
+use mrc_compiler::encoder::OperandSize;
+use x86::Instruction;
+use x86::Operand;
+
+// An operand without its values.
+pub fn outline_of(oper: Operand) -> Outline
+    ensures { λ r. ⌜ r ≡ outlineOf oper ⌝ }
+{
+    match oper {
+        Operand::None => Outline { kind: 0, number: 0 },
+        Operand::Register(n) => Outline { kind: 1, number: n },
+        Operand::SegmentRegister(n) => Outline { kind: 2, number: n },
+        Operand::Memory(b, _, _) => Outline { kind: 3, number: b },
+        Operand::Immediate(_) => Outline { kind: 4, number: 0 },
+        Operand::Near(_) => Outline { kind: 5, number: 0 },
+        Operand::Far(_, _) => Outline { kind: 6, number: 0 },
+        Operand::One => Outline { kind: 7, number: 0 },
+    }
+}
+
+// The opcode of a width.
+fn sized_opcode(width: OperandSize, byte: u8, word: u8) -> u8
+    ensures { λ r. ⌜ r ≡ sized width byte word ⌝ }
+{
+    match width {
+        OperandSize::Unspecified => byte,
+        OperandSize::Byte => byte,
+        OperandSize::Word => word,
+    }
+}
+
+// The immediate of a width.
+fn immediate_tail(width: OperandSize) -> Tail
+    ensures { λ r. ⌜ r ≡ immediate width ⌝ }
+{
+    match width {
+        OperandSize::Unspecified => Tail::Byte,
+        OperandSize::Byte => Tail::Byte,
+        OperandSize::Word => Tail::Word,
+    }
+}
+
+// A number added to an opcode byte.
+fn plus_opcode(opcode: u8, n: u8) -> u8
+    ensures { λ r. ⌜ r ≡ plus opcode n ⌝ }
+{
+    std::num::wrapping_add_u8(opcode, n)
+}
+
+// No second byte.
+fn bare_start(opcode: u8, tail: Tail) -> Start
+    ensures { λ r. ⌜ r ≡ bare opcode tail ⌝ }
+{
+    Start {
+        opcode,
+        second: Second::None,
+        tail,
+    }
+}
+
+// ModRM with reg in its reg field and the operand in r/m: a register, or memory in mode 0, 1 or 2.
+fn modrm_byte(reg: u8, oper: Outline, mode: u8) -> u8
+    ensures { λ r. ⌜ r ≡ modrm reg oper mode ⌝ }
+{
+    let n = oper.number;
+    if oper.kind == 3 {
+        if n == 8 {
+            return reg % 8 * 8 + 6;
+        }
+        return reg % 8 * 8 + (mode % 3 * 64 + n % 8);
+    }
+    reg % 8 * 8 + (192 + n % 8)
+}
+
+// An opcode with that ModRM.
+fn start_with_rm(opcode: u8, reg: u8, oper: Outline, mode: u8, tail: Tail) -> Start
+    ensures { λ r. ⌜ r ≡ withRm opcode reg oper mode tail ⌝ }
+{
+    let x = modrm_byte(reg, oper, mode);
+    Start {
+        opcode,
+        second: Second::ModRm(x),
+        tail,
+    }
+}
+
+// ADD OR ADC SBB AND SUB XOR CMP with an immediate.
+fn arithmetic_immediate(base: u8, width: OperandSize, a: Outline, way: u8, mode: u8) -> Start
+    ensures { λ r. ⌜ r ≡ arithmeticImmediate base width a way mode ⌝ }
+{
+    if way == 0 {
+        if a.kind == 1 {
+            if mode == 0 {
+                return bare_start(
+                    sized_opcode(width, plus_opcode(base, 4), plus_opcode(base, 5)),
+                    immediate_tail(width),
+                );
+            }
+            return start_with_rm(
+                sized_opcode(width, 0x80, 0x81),
+                base / 8,
+                a,
+                mode,
+                immediate_tail(width),
+            );
+        }
+        return start_with_rm(
+            sized_opcode(width, 0x80, 0x81),
+            base / 8,
+            a,
+            mode,
+            immediate_tail(width),
+        );
+    }
+    start_with_rm(0x83, base / 8, a, mode, Tail::Byte)
+}
+
+// ADD OR ADC SBB AND SUB XOR CMP.
+fn start_arithmetic(
+    base: u8,
+    width: OperandSize,
+    a: Outline,
+    b: Outline,
+    way: u8,
+    mode: u8,
+) -> Start
+    ensures { λ r. ⌜ r ≡ arithmetic base width a b way mode ⌝ }
+{
+    if b.kind == 4 {
+        return arithmetic_immediate(base, width, a, way, mode);
+    }
+    if way == 0 {
+        let n = b.number;
+        return start_with_rm(
+            sized_opcode(width, base, plus_opcode(base, 1)),
+            n,
+            a,
+            mode,
+            Tail::None,
+        );
+    }
+    let n = a.number;
+    start_with_rm(
+        sized_opcode(width, plus_opcode(base, 2), plus_opcode(base, 3)),
+        n,
+        b,
+        mode,
+        Tail::None,
+    )
+}
+
+// NOT NEG MUL IMUL DIV IDIV.
+fn start_unary(digit: u8, width: OperandSize, a: Outline, mode: u8) -> Start
+    ensures { λ r. ⌜ r ≡ unary digit width a mode ⌝ }
+{
+    start_with_rm(sized_opcode(width, 0xF6, 0xF7), digit, a, mode, Tail::None)
+}
+
+// INC DEC.
+fn start_inc_dec(digit: u8, width: OperandSize, a: Outline, way: u8, mode: u8) -> Start
+    ensures { λ r. ⌜ r ≡ incDec digit width a way mode ⌝ }
+{
+    if way == 0 {
+        return start_with_rm(sized_opcode(width, 0xFE, 0xFF), digit, a, mode, Tail::None);
+    }
+    let n = a.number;
+    bare_start(0x40 + digit % 2 * 8 + n % 8, Tail::None)
+}
+
+// MOV of an immediate.
+fn move_immediate(width: OperandSize, a: Outline, way: u8, mode: u8) -> Start
+    ensures { λ r. ⌜ r ≡ moveImmediate width a way mode ⌝ }
+{
+    if way == 0 {
+        return start_with_rm(
+            sized_opcode(width, 0xC6, 0xC7),
+            0,
+            a,
+            mode,
+            immediate_tail(width),
+        );
+    }
+    let n = a.number;
+    bare_start(
+        sized_opcode(width, 0xB0 + n % 8, 0xB8 + n % 8),
+        immediate_tail(width),
+    )
+}
+
+// MOV from memory.
+fn move_from(width: OperandSize, a: Outline, b: Outline, way: u8, mode: u8) -> Start
+    ensures { λ r. ⌜ r ≡ moveFrom width a b way mode ⌝ }
+{
+    if way == 0 {
+        let n = a.number;
+        return start_with_rm(sized_opcode(width, 0x8A, 0x8B), n, b, mode, Tail::None);
+    }
+    bare_start(sized_opcode(width, 0xA0, 0xA1), Tail::Address)
+}
+
+// MOV into memory, or between registers.
+fn move_into(width: OperandSize, a: Outline, b: Outline, way: u8, mode: u8) -> Start
+    ensures { λ r. ⌜ r ≡ moveInto width a b way mode ⌝ }
+{
+    if way == 0 {
+        let n = b.number;
+        return start_with_rm(sized_opcode(width, 0x88, 0x89), n, a, mode, Tail::None);
+    }
+    if a.kind == 3 {
+        return bare_start(sized_opcode(width, 0xA2, 0xA3), Tail::Address);
+    }
+    let n = a.number;
+    start_with_rm(sized_opcode(width, 0x8A, 0x8B), n, b, mode, Tail::None)
+}
+
+// MOV.
+fn start_move(width: OperandSize, a: Outline, b: Outline, way: u8, mode: u8) -> Start
+    ensures { λ r. ⌜ r ≡ move width a b way mode ⌝ }
+{
+    if b.kind == 4 {
+        return move_immediate(width, a, way, mode);
+    }
+    if b.kind == 2 {
+        let n = b.number;
+        return start_with_rm(0x8C, n, a, mode, Tail::None);
+    }
+    if a.kind == 2 {
+        let n = a.number;
+        return start_with_rm(0x8E, n, b, mode, Tail::None);
+    }
+    if b.kind == 3 {
+        return move_from(width, a, b, way, mode);
+    }
+    move_into(width, a, b, way, mode)
+}
+
+// XCHG: either operand in reg; 90 with the higher register.
+fn start_exchange(width: OperandSize, a: Outline, b: Outline, way: u8, mode: u8) -> Start
+    ensures { λ r. ⌜ r ≡ exchange width a b way mode ⌝ }
+{
+    let m = a.number;
+    let n = b.number;
+    if way == 0 {
+        if b.kind == 1 {
+            if mode == 0 {
+                return bare_start(0x90 + n % 8, Tail::None);
+            }
+            return start_with_rm(sized_opcode(width, 0x86, 0x87), m, b, mode, Tail::None);
+        }
+        return start_with_rm(sized_opcode(width, 0x86, 0x87), m, b, mode, Tail::None);
+    }
+    start_with_rm(sized_opcode(width, 0x86, 0x87), n, a, mode, Tail::None)
+}
+
+// PUSH and POP: the opcodes for a register and for a segment register.
+fn start_stack(register: u8, segment: u8, a: Outline) -> Start
+    ensures { λ r. ⌜ r ≡ stack register segment a ⌝ }
+{
+    let n = a.number;
+    if a.kind == 1 {
+        return bare_start(plus_opcode(register, n % 8), Tail::None);
+    }
+    bare_start(plus_opcode(segment, n % 4 * 8), Tail::None)
+}
+
+// LEA LES LDS.
+fn start_load(opcode: u8, a: Outline, b: Outline, mode: u8) -> Start
+    ensures { λ r. ⌜ r ≡ load opcode a b mode ⌝ }
+{
+    let n = a.number;
+    start_with_rm(opcode, n, b, mode, Tail::None)
+}
+
+// ROL ROR RCL RCR SHL SHR SAR, by CL or by 1.
+fn start_shift(digit: u8, width: OperandSize, a: Outline, b: Outline, mode: u8) -> Start
+    ensures { λ r. ⌜ r ≡ shift digit width a b mode ⌝ }
+{
+    if b.kind == 1 {
+        return start_with_rm(sized_opcode(width, 0xD2, 0xD3), digit, a, mode, Tail::None);
+    }
+    start_with_rm(sized_opcode(width, 0xD0, 0xD1), digit, a, mode, Tail::None)
+}
+
+// CALL.
+fn start_call(a: Outline, mode: u8) -> Start
+    ensures { λ r. ⌜ r ≡ call a mode ⌝ }
+{
+    if a.kind == 5 {
+        return bare_start(0xE8, Tail::Near16);
+    }
+    start_with_rm(0xFF, 2, a, mode, Tail::None)
+}
+
+// JMP.
+fn start_jump(a: Outline, mode: u8) -> Start
+    ensures { λ r. ⌜ r ≡ jump a mode ⌝ }
+{
+    if a.kind == 5 {
+        return bare_start(0xE9, Tail::Near16);
+    }
+    if a.kind == 6 {
+        return bare_start(0xEA, Tail::Far);
+    }
+    start_with_rm(0xFF, 4, a, mode, Tail::None)
+}
+
+// A single byte; NOP is 87 C0 too.
+fn start_single(opcode: u8, way: u8) -> Start
+    ensures { λ r. ⌜ r ≡ single opcode way ⌝ }
+{
+    if way == 0 {
+        return bare_start(opcode, Tail::None);
+    }
+    Start {
+        opcode: 0x87,
+        second: Second::ModRm(0xC0),
+        tail: Tail::None,
+    }
+}
+
+// IN and OUT: the port is an immediate or DX.
+fn start_port(
+    width: OperandSize,
+    oper: Outline,
+    byte: u8,
+    word: u8,
+    byte_dx: u8,
+    word_dx: u8,
+) -> Start
+    ensures { λ r. ⌜ r ≡ port width oper byte word «byte_dx» «word_dx» ⌝ }
+{
+    if oper.kind == 4 {
+        return bare_start(sized_opcode(width, byte, word), Tail::Byte);
+    }
+    bare_start(sized_opcode(width, byte_dx, word_dx), Tail::None)
+}
+
+// AAM AAD.
+fn start_adjust(opcode: u8) -> Start
+    ensures { λ r. ⌜ r ≡ start opcode (Fixed 0x0A) None ⌝ }
+{
+    Start {
+        opcode,
+        second: Second::Fixed(0x0A),
+        tail: Tail::None,
+    }
+}
+
+// The start in a group with this base.
+fn start_in(
+    group: Group,
+    base: u8,
+    width: OperandSize,
+    a: Outline,
+    b: Outline,
+    way: u8,
+    mode: u8,
+) -> Start
+    ensures { λ r. ⌜ r ≡ startIn group base width a b way mode ⌝ }
+{
+    match group {
+        Group::Arithmetic => start_arithmetic(base, width, a, b, way, mode),
+        Group::Unary => start_unary(base, width, a, mode),
+        Group::Mov => start_move(width, a, b, way, mode),
+        Group::Test => bare_start(0xA8, Tail::Byte),
+        Group::Xchg => start_exchange(width, a, b, way, mode),
+        Group::IncDec => start_inc_dec(base, width, a, way, mode),
+        Group::Push => start_stack(0x50, 0x06, a),
+        Group::Pop => start_stack(0x58, 0x07, a),
+        Group::Ret => bare_start(0xC3, Tail::None),
+        Group::Lea => start_load(base, a, b, mode),
+        Group::LesLds => start_load(base, a, b, mode),
+        Group::Shift => start_shift(base, width, a, b, mode),
+        Group::Call => start_call(a, mode),
+        Group::Jmp => start_jump(a, mode),
+        Group::Jcc => bare_start(base, Tail::Near8),
+        Group::Loopc => bare_start(base, Tail::Near8),
+        Group::NoOperands => start_single(base, way),
+        Group::Prefixes => bare_start(base, Tail::None),
+        Group::Int => bare_start(0xCD, Tail::Byte),
+        Group::Aam => start_adjust(0xD4),
+        Group::Aad => start_adjust(0xD5),
+        Group::Xlat => bare_start(0xD7, Tail::None),
+        Group::In => start_port(width, b, 0xE4, 0xE5, 0xEC, 0xED),
+        Group::Out => start_port(width, a, 0xE6, 0xE7, 0xEE, 0xEF),
+        Group::Unsupported => bare_start(0, Tail::None),
+    }
+}
+
+// The start of an instruction, by way and mode.
+pub fn start_of(insn: Instruction, way: u8, mode: u8) -> Start
+    ensures { λ r. ⌜ r ≡ startOf insn way mode ⌝ }
+{
+    let operation = insn.operation;
+    let grouped = dispatch::group_of(operation);
+    let group = grouped.group;
+    let base = grouped.base;
+    let width = insn.width;
+    let first = insn.first;
+    let second = insn.second;
+    let a = outline_of(first);
+    let b = outline_of(second);
+    start_in(group, base, width, a, b, way, mode)
+}
