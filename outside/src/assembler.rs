@@ -31,12 +31,6 @@ pub fn run(depth: Depth) -> bool {
     failures.count() == 0
 }
 
-#[cfg(not(reads))]
-fn plain(_: &[Accepted], _: &mut Failures) {
-    println!("assembler: plain text skipped: the library has no list_record");
-}
-
-#[cfg(reads)]
 fn plain(sample: &[Accepted], failures: &mut Failures) {
     let lines: Vec<String> = sample.iter().map(|a| text(&a.record, a.offset, Manner::Plain)).collect();
     let (mut other, mut short) = (0, 0);

@@ -1,5 +1,4 @@
 //! Our encoder, reader and lister held to programs that others wrote: NASM, ndisasm and Zydis. See README.md.
-#![cfg_attr(not(reads), allow(dead_code, unused_imports))]
 
 #[allow(dead_code, unused_imports)]
 #[path = "../../differential/src/answers.rs"]
@@ -29,16 +28,12 @@ mod shapes;
 mod accepted;
 mod assembler;
 mod assembly;
-#[cfg(reads)]
 mod classes;
-#[cfg(reads)]
 mod library;
-#[cfg(reads)]
 mod lists;
 mod meaning;
 mod nasm;
 mod ndisasm;
-#[cfg(reads)]
 mod reads;
 mod strings;
 mod zydis;
@@ -56,15 +51,8 @@ pub fn main() -> ExitCode {
     let depth = if arguments.get(1).is_some_and(|a| a == "full") { Depth::Full } else { Depth::Short };
     let fine = match arguments.first().map(String::as_str) {
         Some("assembler") => assembler::run(depth),
-        #[cfg(reads)]
         Some("disassemblers") => reads::run(depth),
-        #[cfg(reads)]
         Some("lists") => lists::run(depth),
-        #[cfg(not(reads))]
-        Some(comparison @ ("disassemblers" | "lists")) => {
-            println!("outside: {comparison} skipped: the library has no read_bytes and list_record");
-            std::env::var("CI").as_deref() != Ok("true")
-        }
         _ => {
             eprintln!("outside: assembler, disassemblers or lists, then short or full");
             false
