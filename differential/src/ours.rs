@@ -5,7 +5,7 @@ use super::records::{mix, Packed};
 
 #[cfg(not(standin))]
 extern "C" {
-    fn encode_record(
+    fn fsq_encode(
         rec: *const u8,
         rec_len: usize,
         offset: u16,
@@ -16,14 +16,17 @@ extern "C" {
     ) -> u8;
 }
 #[cfg(standin)]
-use super::standin::encode_record;
+use super::standin::fsq_encode;
 
 /// The longest slice that is lent. One byte more than the longest run.
 pub const LONGEST: usize = 8;
 
 const FENCE: usize = 8;
 const LENT: usize = FENCE + LONGEST + FENCE;
-const REPORT: usize = 24;
+const REPORT: usize = 28;
+
+/// The record of a report that names none: one record is asked, and no file.
+const NO_RECORD: u32 = u32::MAX;
 
 /// What our side answers with a slice of this length, or what it did that no answer allows.
 /// `seed` varies the bytes that the slice holds before, so that a byte written over itself does not stay hidden.
@@ -35,7 +38,7 @@ pub fn ask(record: &Packed, offset: u16, slice: usize, seed: u64) -> Result<Answ
     let mut lent = before;
     let mut report = [0xA5; REPORT + FENCE];
     let number = unsafe {
-        encode_record(
+        fsq_encode(
             record.as_ptr(),
             record.len(),
             offset,
@@ -58,6 +61,9 @@ pub fn ask(record: &Packed, offset: u16, slice: usize, seed: u64) -> Result<Answ
         high: field(5) as i32,
     };
 
+    if field(6) != NO_RECORD {
+        return Err(format!("named the record {}", field(6)));
+    }
     if number != 0 {
         if lent != before {
             return Err(format!("refused {number} and changed a lent byte"));

@@ -7,7 +7,7 @@ use super::records::*;
 
 /// # Safety
 /// As the C function: each pointer with its length is a valid slice.
-pub unsafe extern "C" fn encode_record(
+pub unsafe extern "C" fn fsq_encode(
     rec: *const u8,
     rec_len: usize,
     offset: u16,
@@ -35,7 +35,8 @@ pub unsafe extern "C" fn encode_record(
             r.number
         }
     };
-    for (i, field) in fields.iter().enumerate() {
+    // No record is named.
+    for (i, field) in fields.iter().chain([&u32::MAX]).enumerate() {
         report[4 * i..4 * i + 4].copy_from_slice(&field.to_le_bytes());
     }
     number

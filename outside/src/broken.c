@@ -3,9 +3,9 @@
 #include <stdlib.h>
 #include <string.h>
 
-uint8_t right_encode_record(const uint8_t *, size_t, uint16_t, uint8_t *, size_t, uint8_t *, size_t);
-uint8_t right_read_bytes(const uint8_t *, size_t, uint16_t, uint8_t *, size_t);
-uint8_t right_list_record(const uint8_t *, size_t, uint16_t, uint8_t *, size_t, uint8_t *, size_t);
+uint8_t right_fsq_encode(const uint8_t *, size_t, uint16_t, uint8_t *, size_t, uint8_t *, size_t);
+uint8_t right_fsq_read(const uint8_t *, size_t, uint16_t, uint8_t *, size_t);
+uint8_t right_fsq_list(const uint8_t *, size_t, uint16_t, uint8_t *, size_t, uint8_t *, size_t);
 
 static int fault(const char *name) {
     static const char *named;
@@ -14,8 +14,8 @@ static int fault(const char *name) {
     return strcmp(named, name) == 0;
 }
 
-uint8_t encode_record(const uint8_t *rec, size_t n, uint16_t offset, uint8_t *out, size_t m, uint8_t *report, size_t k) {
-    uint8_t number = right_encode_record(rec, n, offset, out, m, report, k);
+uint8_t fsq_encode(const uint8_t *rec, size_t n, uint16_t offset, uint8_t *out, size_t m, uint8_t *report, size_t k) {
+    uint8_t number = right_fsq_encode(rec, n, offset, out, m, report, k);
     // 000's AAM
     if (fault("aam-a0") && number == 0 && out[0] == 0xD4)
         out[1] = 0xA0;
@@ -28,8 +28,8 @@ uint8_t encode_record(const uint8_t *rec, size_t n, uint16_t offset, uint8_t *ou
     return number;
 }
 
-uint8_t read_bytes(const uint8_t *bytes, size_t n, uint16_t offset, uint8_t *out, size_t m) {
-    uint8_t number = right_read_bytes(bytes, n, offset, out, m);
+uint8_t fsq_read(const uint8_t *bytes, size_t n, uint16_t offset, uint8_t *out, size_t m) {
+    uint8_t number = right_fsq_read(bytes, n, offset, out, m);
     // BP in DS
     if (fault("bp-in-ds") && number == 0 && out[8] == 3 && out[9] == 6 && out[10] == 2)
         out[10] = 3;
@@ -39,7 +39,7 @@ uint8_t read_bytes(const uint8_t *bytes, size_t n, uint16_t offset, uint8_t *out
         size_t length = n < 16 ? n : 16;
         memcpy(copy, bytes, length);
         copy[0] = 0x80;
-        return right_read_bytes(copy, length, offset, out, m);
+        return right_fsq_read(copy, length, offset, out, m);
     }
     // SALC, which no manual has
     if (fault("no-salc") && n > 0 && bytes[0] == 0xD6)
@@ -50,8 +50,8 @@ uint8_t read_bytes(const uint8_t *bytes, size_t n, uint16_t offset, uint8_t *out
     return number;
 }
 
-uint8_t list_record(const uint8_t *rec, size_t n, uint16_t offset, uint8_t *out, size_t m, uint8_t *report, size_t k) {
-    uint8_t number = right_list_record(rec, n, offset, out, m, report, k);
+uint8_t fsq_list(const uint8_t *rec, size_t n, uint16_t offset, uint8_t *out, size_t m, uint8_t *report, size_t k) {
+    uint8_t number = right_fsq_list(rec, n, offset, out, m, report, k);
     // the second direction of two registers
     if (fault("one-missing") && number == 0 && report[0] > 1 && out[0] == 2 && out[1] == 0x01)
         report[0]--;

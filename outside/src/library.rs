@@ -4,8 +4,8 @@ use crate::meaning::{Meaning, Operand};
 use crate::records::Packed;
 
 extern "C" {
-    fn read_bytes(bytes: *const u8, bytes_len: usize, offset: u16, out: *mut u8, out_len: usize) -> u8;
-    fn list_record(
+    fn fsq_read(bytes: *const u8, bytes_len: usize, offset: u16, out: *mut u8, out_len: usize) -> u8;
+    fn fsq_list(
         rec: *const u8,
         rec_len: usize,
         offset: u16,
@@ -28,7 +28,7 @@ pub enum Read {
 
 pub fn read(bytes: &[u8], offset: u16) -> Read {
     let mut out = [0; 24];
-    match unsafe { read_bytes(bytes.as_ptr(), bytes.len(), offset, out.as_mut_ptr(), out.len()) } {
+    match unsafe { fsq_read(bytes.as_ptr(), bytes.len(), offset, out.as_mut_ptr(), out.len()) } {
         0 => {
             let meaning = Meaning { operation: out[1], width: out[2], operands: [operand(&out[8..16]), operand(&out[16..24])] };
             Read::Whole(out[0] as usize, meaning)
@@ -59,13 +59,15 @@ fn operand(field: &[u8]) -> Operand {
 /// The strings of a record's list, or the refusal.
 pub fn list(record: &Packed, offset: u16) -> Result<Vec<Vec<u8>>, u8> {
     let mut out = [0; 96];
-    let mut report = [0; 24];
+    let mut report = [0; 28];
     let (n, m) = (out.len(), report.len());
-    match unsafe { list_record(record.as_ptr(), record.len(), offset, out.as_mut_ptr(), n, report.as_mut_ptr(), m) } {
+    let number = unsafe { fsq_list(record.as_ptr(), record.len(), offset, out.as_mut_ptr(), n, report.as_mut_ptr(), m) };
+    assert_eq!(report[24..], [0xFF; 4], "the lister was asked one record and names one of a file");
+    match number {
         0 => {
             let count = u32::from_le_bytes(report[..4].try_into().unwrap()) as usize;
             Ok(out.chunks(8).take(count).map(|entry| entry[1..1 + entry[0] as usize].to_vec()).collect())
         }
-        number => Err(number),
+        _ => Err(number),
     }
 }

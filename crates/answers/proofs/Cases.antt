@@ -2,14 +2,13 @@
 -- Assumes nothing.
 use mathlib.Core.Path.{_≡_, refl}
 use mathlib.Core.Bool.{true}
-use mathlib.Core.List.{List, [], _∷_}
+use mathlib.Core.List.{[], _∷_}
 use Prim.Native.Nat.{ℕ}
 use lib.IntN.{ℤ, pos, negsuc}
 use Rattle.mrc_compiler.specs.declared.ast.Span.{Span}
 use Rattle.mrc_compiler.specs.declared.ast.OptionDataSize.the-variants as OD
 use Rattle.mrc_compiler.specs.declared.ast.DataSize.the-variants as D
 use Rattle.mrc_compiler.specs.declared.ast.OptionSegment.the-variants as OG
-use Rattle.mrc_compiler.specs.declared.encoder.EncodeError.{EncodeError}
 use Rattle.mrc_compiler.specs.declared.encoder.EncodeError.the-variants as E
 use Rattle.mrc_compiler.specs.declared.encoder.InstructionData.{InstructionData}
 use Rattle.mrc_compiler.specs.declared.encoder.OperandData.{OperandData}
@@ -25,7 +24,7 @@ use Rattle.answers.specs.Groups.{groupOf}
 use Rattle.answers.specs.Choice.{formsOf}
 use Rattle.answers.specs.Layout.{layout}
 use Rattle.answers.specs.Questions.{questions}
-use Rattle.answers.specs.Answer.{Answer, bytes, refused, answer}
+use Rattle.answers.specs.Answer.{bytes, refused, answer}
 
 -- spans that tell the instruction and its operands apart
 abbrev whole : Span

@@ -15,7 +15,7 @@ use Rattle.mrc_compiler.specs.Choose.{pick}
 use Rattle.answers.specs.Records.{dst, src}
 use Rattle.answers.specs.Choice.{Choice, none, straight, crossed}
 use Rattle.answers.specs.Layout.{layout}
-use Rattle.answers.specs.Limits.{Asked, asked}
+use Rattle.answers.specs.Limits.{Asked}
 use Rattle.answers.specs.Questions.{questions, chosen}
 
 -- the first question whose answer is no

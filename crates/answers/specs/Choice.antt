@@ -15,7 +15,7 @@ use Rattle.mrc_compiler.specs.Values.{within}
 use Rattle.x86.specs.Forms.{Slot, rm, rm-near, mem, reg, sreg, sreg-not-cs, acc, low3, bits34, bits34-not-cs, CL, DX, one, moffs, xlat, ib, iw, ib-sx, cb, cw, ptr, nil, Form, forms}
 use Rattle.x86.specs.Reading.{keep}
 use Rattle.answers.specs.Records.{sameSize, statedOf}
-use Rattle.answers.specs.Groups.{Group, groupOf, arithmetic, unary, incDec, move, exchange, test, push, pop, load, shift, call, jump, conditional, loop, interrupt, translate, input, output, return, plain, unsupported}
+use Rattle.answers.specs.Groups.{Group, arithmetic, unary, incDec, move, exchange, test, push, pop, load, shift, call, jump, conditional, loop, interrupt, translate, input, output, return, plain, unsupported}
 
 -- an operand of this kind that passes the test
 abbrev pub ifImm : OperandData → Bool → Bool

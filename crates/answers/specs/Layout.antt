@@ -5,7 +5,6 @@ use mathlib.Core.List.{List, [], _∷_, _++_}
 use lib.Dec.{eqb}
 use lib.IntN.{ℤ}
 use Rattle.mrc_compiler.specs.declared.encoder.OperandData.{OperandData}
-use Rattle.mrc_compiler.specs.declared.encoder.OperandSize.{OperandSize}
 use Rattle.mrc_compiler.specs.Choose.{pick, bySize}
 use Rattle.mrc_compiler.specs.Values.{modZ}
 use Rattle.values.specs.Distances.{distanceOf}

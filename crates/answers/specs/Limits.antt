@@ -1,7 +1,7 @@
 -- Questions 6 and 7: the ranges of what a form holds.
 -- Definitions only.
 use Prim.Native.Nat.{ℕ}
-use mathlib.Core.Bool.{Bool, true, false}
+use mathlib.Core.Bool.{Bool, true}
 use mathlib.Core.List.{List, [], _∷_, _++_}
 use lib.IntN.{ℤ, pos, negsuc}
 use Rattle.mrc_compiler.specs.declared.encoder.EncodeError.{EncodeError}
@@ -13,7 +13,7 @@ use Rattle.mrc_compiler.specs.Values.{within}
 use Rattle.values.specs.Distances.{distanceOf, wrapped}
 use Rattle.x86.specs.Forms.{Slot, rm, rm-near, mem, reg, sreg, sreg-not-cs, acc, low3, bits34, bits34-not-cs, CL, DX, one, moffs, xlat, ib, iw, ib-sx, cb, cw, ptr, nil, Form}
 use Rattle.x86.specs.Reading.{about, somewhere}
-use Rattle.answers.specs.Groups.{Group, groupOf, arithmetic, unary, incDec, move, exchange, test, push, pop, load, shift, call, jump, conditional, loop, interrupt, translate, input, output, return, plain, unsupported}
+use Rattle.answers.specs.Groups.{Group, arithmetic, unary, incDec, move, exchange, test, push, pop, load, shift, call, jump, conditional, loop, interrupt, translate, input, output, return, plain, unsupported}
 
 -- what an immediate is
 pub data Kind : Type 0 where

@@ -4,7 +4,6 @@ use Prim.Native.Nat.{ℕ}
 use mathlib.Core.Bool.{Bool, true, false}
 use mathlib.Core.List.{List, [], _∷_, _++_}
 use lib.Dec.{leb}
-use lib.IntN.{pos}
 use Rattle.mrc_compiler.specs.declared.ast.Span.{Span}
 use Rattle.mrc_compiler.specs.declared.encoder.EncodeError.{EncodeError}
 use Rattle.mrc_compiler.specs.declared.encoder.EncodeError.the-variants as E
@@ -16,7 +15,7 @@ use Rattle.mrc_compiler.specs.declared.encoder.generate.Why.the-variants as W
 use Rattle.mrc_compiler.specs.declared.encoder.generate.At.{At}
 use Rattle.mrc_compiler.specs.declared.encoder.generate.At.the-variants as At
 use Rattle.mrc_compiler.specs.Builders.{isSpecified}
-use Rattle.mrc_compiler.specs.Choose.{pick, both, either, isnt, bySize, byKind, byJump}
+use Rattle.mrc_compiler.specs.Choose.{pick, either, bySize, byKind, byJump}
 use Rattle.mrc_compiler.specs.Values.{within}
 use Rattle.x86.specs.Instructions.{symmetric}
 use Rattle.answers.specs.Records.{dst, src}

@@ -1,6 +1,5 @@
 -- The parts of a record, and sizes compared.
 -- Definitions only.
-use Prim.Native.Nat.{ℕ}
 use mathlib.Core.Bool.{Bool, true, false}
 use lib.IntN.{pos}
 use lib.ListN.{getD}

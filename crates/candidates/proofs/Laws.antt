@@ -5,9 +5,9 @@ use Prim.Native.Nat.{ℕ, _+_, _%_, _≤_, _<_}
 use native.Mathlib.Omega.{arith}
 use Rattle.x86.specs.declared.Instruction.{Instruction}
 use Rattle.answers.specs.Layout.{prefixBytes}
-use Rattle.emit.specs.declared.ByteRun.{ByteRun}
-use Rattle.emit.specs.Emit.{emptyRun, pushed, appended}
-use Rattle.emit.proofs.Laws.{appended-append}
+use Rattle.emitter.specs.declared.ByteRun.{ByteRun}
+use Rattle.emitter.specs.Run.{emptyRun, pushed, appended}
+use Rattle.emitter.proofs.Laws.{appended-append}
 use Rattle.listing.specs.declared.Start.{Start}
 use Rattle.listing.specs.Operands.{displacementOf, valueOf, farSegmentOf}
 use Rattle.listing.specs.Candidates.{byteOf, secondBytes, distance, tailBytes, stringOf}

@@ -1,11 +1,10 @@
 // The twelve candidates of an instruction's listing, each as a run of bytes.
 ghost use mathlib.Core.Path.{_≡_};
 ghost use Prim.Native.Nat.{_%_, _/_, _≤_};
-ghost use Rattle.x86.specs.Reading.{displacementLength};
-ghost use Rattle.emit.specs.Emit.{emptyRun, appended};
+ghost use Rattle.emitter.specs.Run.{emptyRun, appended};
 ghost use Rattle.listing.specs.Operands.{prefixIn, displacementIn, valueIn, farSegmentIn, prefixOf, displacementOf, valueOf, farSegmentOf};
 ghost use Rattle.listing.specs.Candidates.{byteOf, displacementBytes, secondBytes, distance, tailBytes, stringOf, candidate};
-use emit::ByteRun;
+use emitter::ByteRun;
 use listing::Second;
 use listing::Start;
 use listing::Tail;
@@ -113,25 +112,6 @@ fn far_segment_of(insn: Instruction) -> u16
 
 // ---- the bytes
 
-// The bytes of displacement that ModRM asks for.
-fn displacement_length(x: u8) -> u8
-    ensures { λ r. ⌜ r ≡ displacementLength (x / 64) (x % 8) ⌝ }
-{
-    if x / 64 == 0 {
-        if x % 8 == 6 {
-            return 2;
-        }
-        return 0;
-    }
-    if x / 64 == 1 {
-        return 1;
-    }
-    if x / 64 == 2 {
-        return 2;
-    }
-    0
-}
-
 // A displacement of n bytes.
 fn push_displacement(run: ByteRun, n: u8, displacement: u16) -> ByteRun
     ensures { λ r. ⌜ r ≡ appended run (displacementBytes n displacement) ⌝ }
@@ -140,7 +120,7 @@ fn push_displacement(run: ByteRun, n: u8, displacement: u16) -> ByteRun
         return run;
     }
     if n == 1 {
-        return emit::push(run, (displacement % 256) as u8);
+        return emitter::push(run, (displacement % 256) as u8);
     }
     emit::push_word(run, displacement)
 }
@@ -152,10 +132,10 @@ fn push_second(run: ByteRun, second: Second, displacement: u16) -> ByteRun
     match second {
         Second::None => run,
         Second::ModRm(x) => {
-            let next = emit::push(run, x);
-            push_displacement(next, displacement_length(x), displacement)
+            let next = emitter::push(run, x);
+            push_displacement(next, x86::displacement_length(x / 64, x % 8), displacement)
         }
-        Second::Fixed(x) => emit::push(run, x),
+        Second::Fixed(x) => emitter::push(run, x),
     }
 }
 
@@ -180,11 +160,11 @@ fn push_tail(
 {
     match tail {
         Tail::None => run,
-        Tail::Byte => emit::push(run, (value % 256) as u8),
+        Tail::Byte => emitter::push(run, (value % 256) as u8),
         Tail::Word => emit::push_word(run, value),
         Tail::Near8 => {
             let d = distance_from(value, offset, 2);
-            emit::push(run, (d % 256) as u8)
+            emitter::push(run, (d % 256) as u8)
         }
         Tail::Near16 => {
             let d = distance_from(value, offset, 3);
@@ -201,7 +181,7 @@ fn push_tail(
 fn push_opcode(run: ByteRun, opcode: u8) -> ByteRun
     ensures { λ r. ⌜ r ≡ appended run (byteOf opcode) ⌝ }
 {
-    emit::push(run, opcode)
+    emitter::push(run, opcode)
 }
 
 // The string of an instruction with a prefix (0: none) and a start.
@@ -212,7 +192,7 @@ fn string_run(offset: u16, prefix: u8, start: Start, insn: Instruction) -> ByteR
     let second = start.second;
     let tail = start.tail;
     let displacement = displacement_of(insn);
-    let prefixed = emit::emit_segment_prefix(emit::empty_run(), prefix);
+    let prefixed = emit::emit_segment_prefix(emitter::empty_run(), prefix);
     let coded = push_opcode(prefixed, opcode);
     let moded = push_second(coded, second, displacement);
     push_tail(

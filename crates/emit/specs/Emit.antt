@@ -3,9 +3,8 @@
 use Prim.Native.Nat.{ℕ, _+_, _*_, _%_}
 use mathlib.Core.Bool.{Bool, true, false}
 use mathlib.Core.List.{List, [], _∷_, _++_}
-use lib.Dec.{eqb, ltb}
+use lib.Dec.{eqb}
 use lib.IntN.{ℤ, pos, negsuc}
-use lib.ListN.{set}
 use Rattle.mrc_compiler.specs.declared.ast.Span.{Span}
 use Rattle.mrc_compiler.specs.declared.encoder.EncodeError.the-variants as E
 use Rattle.mrc_compiler.specs.declared.encoder.InstructionData.{InstructionData}
@@ -20,23 +19,13 @@ use Rattle.values.specs.Distances.{distanceOf, wrapped}
 use Rattle.answers.specs.Records.{dst, src}
 use Rattle.answers.specs.Layout.{byteOf, wordOf, prefixBytes, displacementBytes}
 use Rattle.answers.specs.Answer.{Answer, bytes, refused}
-use Rattle.emit.specs.declared.ByteRun.{ByteRun}
+use Rattle.emitter.specs.declared.ByteRun.{ByteRun}
+use Rattle.emitter.specs.Run.{appended}
 use Rattle.emit.specs.declared.Refusal.{Refusal}
 use Rattle.emit.specs.declared.Refusal.the-variants as R
 use Rattle.emit.specs.declared.Emitted.{Emitted}
 
--- ---- a run of bytes
-abbrev pub emptyRun : ByteRun
-emptyRun = record { bytes = 0 ∷ 0 ∷ 0 ∷ 0 ∷ 0 ∷ 0 ∷ 0 ∷ []; len = 0 }
-
--- one byte more. A full run drops it: no answer has more than seven bytes (answers, Accepted)
-abbrev pub pushed : ByteRun → ℕ → ByteRun
-pushed run b = pick (ltb (run .len) 7) (record { bytes = set (run .bytes) (run .len) b; len = run .len + 1 }) run
-
-abbrev pub appended : ByteRun → List ℕ → ByteRun
-appended run [] = run
-appended run (b ∷ bs) = appended (pushed run b) bs
-
+-- ---- what is emitted
 -- the run with an answer's bytes behind it, or as it was with the refusal
 abbrev pub emitted : ByteRun → Answer → Emitted
 emitted run (bytes bs) = record { refusal = R.None; run = appended run bs }
@@ -109,6 +98,12 @@ codeAnswer (C.FarWords k) insn off =
     (immediateWord (pos 0) (pos 65535) (operand insn k .displacement) (operand insn k .span))
 
 -- one or two codes
+abbrev pub codeAt : Codes → ℕ → Code
+codeAt codes i = pick (eqb i 0) (codes .first) (codes .second)
+
+abbrev pub countOf : Codes → ℕ
+countOf codes = pick (eqb (codes .count) 1) 1 2
+
 abbrev pub codesAnswer : Codes → InstructionData → ℕ → Answer
 codesAnswer codes insn off =
     pick (eqb (codes .count) 1) (codeAnswer (codes .first) insn off) (joined (codeAnswer (codes .first) insn off) (codeAnswer (codes .second) insn off))

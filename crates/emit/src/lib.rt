@@ -3,11 +3,12 @@ ghost use mathlib.Core.Path.{_≡_};
 ghost use mathlib.Core.List.{[]};
 ghost use Prim.Native.Nat.{_+_, _*_, _%_};
 ghost use lib.IntN.{pos};
-ghost use Rattle.mrc_compiler.specs.Values.{within};
 ghost use Rattle.answers.specs.Layout.{wordBytes, prefixBytes, displacementBytes};
 ghost use Rattle.answers.specs.Answer.{bytes, refused};
 ghost use Rattle.mrc_compiler.specs.declared.encoder.EncodeError.the-variants.{ImmediateOutOfRange};
-ghost use Rattle.emit.specs.Emit.{emptyRun, pushed, appended, emitted, immediateByte, immediateWord, relativeByte, relativeWord, modRmByte, modRegRm, joined, isRefused, undone, operand, other, codeAnswer, codesAnswer};
+ghost use Rattle.emitter.specs.Run.{emptyRun, appended};
+ghost use Rattle.emit.specs.Emit.{emitted, immediateByte, immediateWord, relativeByte, relativeWord, modRmByte, modRegRm, joined, isRefused, undone, operand, other, codeAnswer, codeAt, countOf, codesAnswer};
+use emitter::ByteRun;
 use mrc_compiler::ast::Span;
 use mrc_compiler::encoder::EncodeError;
 use mrc_compiler::encoder::InstructionData;
@@ -16,12 +17,6 @@ use mrc_compiler::encoder::OperandSize;
 use mrc_compiler::encoder::generate::Code;
 use mrc_compiler::encoder::generate::Codes;
 use values::Relative;
-
-// The Rust's ByteEmitter: seven bytes and how many of them are there.
-pub struct ByteRun {
-    pub bytes: [u8; 7],
-    pub len: usize,
-}
 
 // The Rust's Result<(), EncodeError>. An enum cannot hold the run's array, so the two stand side by side.
 pub enum Refusal {
@@ -34,36 +29,12 @@ pub struct Emitted {
     pub run: ByteRun,
 }
 
-pub fn empty_run() -> ByteRun
-    ensures { λ r. ⌜ r ≡ emptyRun ⌝ }
-{
-    ByteRun {
-        bytes: [0, 0, 0, 0, 0, 0, 0],
-        len: 0,
-    }
-}
-
-// One byte more; a full run stays as it is.
-pub fn push(run: ByteRun, byte: u8) -> ByteRun
-    ensures { λ r. ⌜ r ≡ pushed run byte ⌝ }
-{
-    let at = run.len;
-    if at < 7 {
-        let mut next = run;
-        next.bytes[at] = byte;
-        next.len = at + 1;
-        next
-    } else {
-        run
-    }
-}
-
 // A word, low byte first.
 pub fn push_word(run: ByteRun, value: u16) -> ByteRun
     ensures { λ r. ⌜ r ≡ appended run (wordBytes value) ⌝ }
 {
-    let first = push(run, (value % 256) as u8);
-    push(first, (value / 256) as u8)
+    let first = emitter::push(run, (value % 256) as u8);
+    emitter::push(first, (value / 256) as u8)
 }
 
 // The prefix of a memory operand, also where it names the default segment; 0 means none.
@@ -73,7 +44,7 @@ pub fn emit_segment_prefix(run: ByteRun, segment_prefix: u8) -> ByteRun
     if segment_prefix == 0 {
         run
     } else {
-        push(run, segment_prefix)
+        emitter::push(run, segment_prefix)
     }
 }
 
@@ -84,7 +55,7 @@ fn emit_displacement(run: ByteRun, oper: OperandData) -> ByteRun
     let size = oper.displacement_size;
     match size {
         OperandSize::Unspecified => run,
-        OperandSize::Byte => push(run, values::low_byte(oper.displacement)),
+        OperandSize::Byte => emitter::push(run, values::low_byte(oper.displacement)),
         OperandSize::Word => push_word(run, values::low_word(oper.displacement)),
     }
 }
@@ -101,8 +72,8 @@ pub fn emit_mod_reg_rm(run: ByteRun, op_code: u8, rm: OperandData, reg: u8) -> B
     ensures { λ r. ⌜ r ≡ appended run (modRegRm «op_code» rm reg) ⌝ }
 {
     let prefixed = emit_segment_prefix(run, rm.segment_prefix);
-    let coded = push(prefixed, op_code);
-    let moded = push(coded, mod_rm_byte(rm.mode, reg, rm.rm));
+    let coded = emitter::push(prefixed, op_code);
+    let moded = emitter::push(coded, mod_rm_byte(rm.mode, reg, rm.rm));
     emit_displacement(moded, rm)
 }
 
@@ -136,19 +107,12 @@ fn refuse_value(run: ByteRun, low: i32, high: i32, value: i32, span: Span) -> Em
     )
 }
 
-// Is the value in its limits?
-fn value_is_within(value: i32, low: i32, high: i32) -> bool
-    ensures { λ r. ⌜ r ≡ within low high value ⌝ }
-{
-    low <= value && value <= high
-}
-
 // The low byte of a value in its limits, or refusal 5.
 fn emit_byte_within(run: ByteRun, low: i32, high: i32, value: i32, span: Span) -> Emitted
     ensures { λ r. ⌜ r ≡ emitted run (immediateByte low high value span) ⌝ }
 {
-    if value_is_within(value, low, high) {
-        accept(push(run, values::low_byte(value)))
+    if values::value_is_within(value, low, high) {
+        accept(emitter::push(run, values::low_byte(value)))
     } else {
         refuse_value(run, low, high, value, span)
     }
@@ -158,7 +122,7 @@ fn emit_byte_within(run: ByteRun, low: i32, high: i32, value: i32, span: Span) -
 fn emit_word_within(run: ByteRun, low: i32, high: i32, value: i32, span: Span) -> Emitted
     ensures { λ r. ⌜ r ≡ emitted run (immediateWord low high value span) ⌝ }
 {
-    if value_is_within(value, low, high) {
+    if values::value_is_within(value, low, high) {
         accept(push_word(run, values::low_word(value)))
     } else {
         refuse_value(run, low, high, value, span)
@@ -171,7 +135,7 @@ fn emit_relative_byte(run: ByteRun, oper: OperandData, offset: u16, size: u8) ->
 {
     let span = oper.span;
     match values::relative_byte(oper.imm, offset, size) {
-        Relative::Short(byte) => accept(push(run, byte)),
+        Relative::Short(byte) => accept(emitter::push(run, byte)),
         Relative::Far(distance) => {
             refuse(
                 run,
@@ -187,7 +151,7 @@ fn emit_relative_word(run: ByteRun, oper: OperandData, offset: u16) -> Emitted
 {
     let span = oper.span;
     let target = oper.imm;
-    if value_is_within(target, 0, 65535) {
+    if values::value_is_within(target, 0, 65535) {
         accept(push_word(run, values::near_distance(target, offset)))
     } else {
         refuse_value(run, 0, 65535, target, span)
@@ -265,7 +229,7 @@ pub fn emit_code(run: ByteRun, insn: InstructionData, offset: u16, code: Code) -
     ensures { λ r. ⌜ r ≡ emitted run (codeAnswer code insn offset) ⌝ }
 {
     match code {
-        Code::Byte(byte) => accept(push(run, byte)),
+        Code::Byte(byte) => accept(emitter::push(run, byte)),
         Code::ImmByte(k) => {
             let oper = operand_of(insn, k);
             emit_byte_within(run, 0, 255, oper.imm, oper.span)
@@ -292,15 +256,15 @@ pub fn emit_code(run: ByteRun, insn: InstructionData, offset: u16, code: Code) -
         )),
         Code::RegByte(k, op_code) => {
             let oper = operand_of(insn, k);
-            accept(push(run, opcode_with_register(op_code, oper.rm)))
+            accept(emitter::push(run, opcode_with_register(op_code, oper.rm)))
         }
         Code::SegByte(k, op_code) => {
             let oper = operand_of(insn, k);
-            accept(push(run, opcode_with_segment(op_code, oper.rm)))
+            accept(emitter::push(run, opcode_with_segment(op_code, oper.rm)))
         }
         Code::MemByte(k, op_code) => {
             let oper = operand_of(insn, k);
-            accept(push(emit_segment_prefix(run, oper.segment_prefix), op_code))
+            accept(emitter::push(emit_segment_prefix(run, oper.segment_prefix), op_code))
         }
         Code::ImmSignedByte(k) => {
             let oper = operand_of(insn, k);
@@ -315,30 +279,50 @@ pub fn emit_code(run: ByteRun, insn: InstructionData, offset: u16, code: Code) -
     }
 }
 
-// Two codes, or neither.
-fn emit_two(run: ByteRun, insn: InstructionData, offset: u16, a: Code, b: Code) -> Emitted
-    ensures { λ r. ⌜ r ≡ emitted run (joined (codeAnswer a insn offset) (codeAnswer b insn offset)) ⌝ }
+// The first code of a list, or the second.
+fn code_at(codes: Codes, i: u8) -> Code
+    ensures { λ r. ⌜ r ≡ codeAt codes i ⌝ }
 {
-    let first = emit_code(run, insn, offset, a);
-    let refusal = first.refusal;
-    if is_refused(refusal) {
-        first
-    } else {
-        let so_far = first.run;
-        let second = emit_code(so_far, insn, offset, b);
-        undo_refused(run, second)
-    }
+    if i == 0 { codes.first } else { codes.second }
 }
 
-// The codes of a list, one after the other, from an empty run.
+fn count_of(codes: Codes) -> u8
+    ensures { λ r. ⌜ r ≡ countOf codes ⌝ }
+{
+    if codes.count == 1 { 1 } else { 2 }
+}
+
+// The core: the codes of a list, one after the other, by value and from an empty run.
+fn codes_run(insn: InstructionData, offset: u16, codes: Codes) -> Emitted
+    ensures { λ r. ⌜ r ≡ emitted emptyRun (codesAnswer codes insn offset) ⌝ }
+{
+    let n = count_of(codes);
+    let mut run = emitter::empty_run();
+    let mut i = 0;
+    while i < n {
+        let code = code_at(codes, i);
+        let done = emit_code(run, insn, offset, code);
+        let refusal = done.refusal;
+        if is_refused(refusal) {
+            return Emitted {
+                refusal,
+                run: emitter::empty_run(),
+            };
+        }
+        run = done.run;
+        i += 1;
+    }
+    accept(run)
+}
+
+// The codes of a list: what the core decides is emitted, one byte at a time.
 pub fn emit_codes(insn: InstructionData, offset: u16, codes: Codes) -> Emitted
     ensures { λ r. ⌜ r ≡ emitted emptyRun (codesAnswer codes insn offset) ⌝ }
 {
-    let first = codes.first;
-    let second = codes.second;
-    if codes.count == 1 {
-        emit_code(empty_run(), insn, offset, first)
-    } else {
-        emit_two(empty_run(), insn, offset, first, second)
+    let core = codes_run(insn, offset, codes);
+    let refusal = core.refusal;
+    Emitted {
+        refusal,
+        run: emitter::filled(core.run),
     }
 }

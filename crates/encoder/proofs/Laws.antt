@@ -22,10 +22,11 @@ use Rattle.answers.specs.WellFormed.{wellFormed}
 use Rattle.answers.specs.Answer.{Answer, bytes, refused, answer, outcome, sliceAfter}
 use Rattle.answers.proofs.Accepted.{accepted-reads}
 use Rattle.plans.specs.Plans.{planOf}
-use Rattle.emit.specs.declared.ByteRun.{ByteRun}
+use Rattle.emitter.specs.declared.ByteRun.{ByteRun}
 use Rattle.emit.specs.declared.Emitted.{Emitted}
 use Rattle.emit.specs.declared.Refusal.the-variants as R
-use Rattle.emit.specs.Emit.{emptyRun, pushed, appended, emitted}
+use Rattle.emitter.specs.Run.{emptyRun, pushed, appended}
+use Rattle.emit.specs.Emit.{emitted}
 use Rattle.encoder.specs.Coded.{planAnswer, coded}
 use Rattle.encoder.specs.Lengths.{lengthOf}
 use Rattle.encoder.proofs.Tied.{tied}

@@ -8,12 +8,13 @@ ghost use Rattle.mrc_compiler.specs.Choose.{pick};
 ghost use Rattle.answers.specs.Questions.{spanAt, errorOf};
 ghost use Rattle.answers.specs.Answer.{answer, outcome, sliceAfter};
 ghost use Rattle.answers.specs.Answer as Answers;
-ghost use Rattle.emit.specs.Emit.{emptyRun, emitted};
+ghost use Rattle.emitter.specs.Run.{emptyRun};
+ghost use Rattle.emit.specs.Emit.{emitted};
 ghost use Rattle.encoder.specs.Coded.{coded, planAnswer};
 ghost use Rattle.encoder.specs.Lengths.{lengthOf};
-use emit::ByteRun;
 use emit::Emitted;
 use emit::Refusal;
+use emitter::ByteRun;
 use mrc_compiler::ast::Span;
 use mrc_compiler::encoder::EncodeError;
 use mrc_compiler::encoder::Encoded;
@@ -54,7 +55,7 @@ fn refused(error: EncodeError) -> Emitted
 {
     Emitted {
         refusal: Refusal::Because(error),
-        run: emit::empty_run(),
+        run: emitter::empty_run(),
     }
 }
 

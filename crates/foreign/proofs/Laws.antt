@@ -47,12 +47,18 @@ pub six : (a b c d e f : ℕ) (s l m : List ℕ) → 24 ≤ length s → l ≡ s
 unfolding u32Bytes
 six a b c d e f s l m h p q = rw (q, p) (sets-eq (threeBytes a b c ++ threeBytes d e f) s 0 h)
 
-pub twice : (t : Told) (s l m : List ℕ) → 24 ≤ length s → l ≡ sets s 0 (threeBytes (t .length) (t .span .start) (t .span .end))
-    → m ≡ sets l 12 (threeBytes (bits (t .value)) (bits (t .low)) (bits (t .high)))
-    → m ≡ reportAfter t s
-twice t s l m h d e =
-    rw (le-leb 24 (length s) h)
-    (six (t .length) (t .span .start) (t .span .end) (bits (t .value)) (bits (t .low)) (bits (t .high)) s l m h d e)
+-- and put_u32 behind them
+seven : (a b c d e f g : ℕ) (s l m n : List ℕ) → 28 ≤ length s → l ≡ sets s 0 (threeBytes a b c) → m ≡ sets l 12 (threeBytes d e f) → n ≡ sets m 24 (u32Bytes g)
+    → n ≡ (threeBytes a b c ++ (threeBytes d e f ++ u32Bytes g)) ++ drop 28 s
+unfolding u32Bytes
+seven a b c d e f g s l m n h p q r = rw (r, q, p) (sets-eq (threeBytes a b c ++ (threeBytes d e f ++ u32Bytes g)) s 0 h)
+
+pub reported : (t : Told) (s l m n : List ℕ) → 28 ≤ length s → l ≡ sets s 0 (threeBytes (t .length) (t .span .start) (t .span .end))
+    → m ≡ sets l 12 (threeBytes (bits (t .value)) (bits (t .low)) (bits (t .high))) → n ≡ sets m 24 (u32Bytes (t .«record»))
+    → n ≡ reportAfter t s
+reported t s l m n h d e f =
+    rw (le-leb 28 (length s) h)
+    (seven (t .length) (t .span .start) (t .span .end) (bits (t .value)) (bits (t .low)) (bits (t .high)) (t .«record») s l m n h d e f)
 
 -- ---- bits_of: what the code subtracts or keeps is below 2^32
 module _ (z : ℤ) (f : SFits w32 z) (t : ltZ (toZ w32 (ofZ w32 z)) (pos 0) ≡ true) where

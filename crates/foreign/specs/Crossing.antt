@@ -1,4 +1,4 @@
--- What crosses to a program in another language: an answer's number, and a report of 24 bytes, little-endian: length, span start and end (u32), value, low, high (i32).
+-- What crosses to a program in another language: an answer's number, and a report of 28 bytes, little-endian: length, span start and end (u32), value, low, high (i32), record (u32).
 -- Definitions only.
 use Prim.Native.Nat.{ℕ, _/_, _%_}
 use mathlib.Core.List.{List, [], _∷_, _++_}
@@ -30,6 +30,10 @@ threeBytes a b c = u32Bytes a ++ (u32Bytes b ++ u32Bytes c)
 abbrev pub noSpan : Span
 noSpan = record { start = 0; end = 0 }
 
+-- the record of a report that names none: a record's index in its file is below it
+abbrev pub noRecord : ℕ
+noRecord = 4294967295
+
 -- the report's value and limits: a distance has no limits
 abbrev pub valueOf : Values → ℤ
 valueOf none = pos 0
@@ -55,6 +59,7 @@ toldReport r = record {
   value = valueOf (r .values);
   low = lowOf (r .values);
   high = highOf (r .values);
+  «record» = noRecord;
 }
 
 abbrev pub toldRefusal : EncodeError → Told
@@ -69,15 +74,17 @@ toldAlone n = toldSpan n noSpan
 
 -- 0 with the number of bytes, or the refusal
 abbrev pub toldEncoded : Encoded → Told
-toldEncoded (N.Length n) = record { number = 0; length = n % 4294967296; span = noSpan; value = pos 0; low = pos 0; high = pos 0 }
+toldEncoded (N.Length n) = record { number = 0; length = n % 4294967296; span = noSpan; value = pos 0; low = pos 0; high = pos 0; «record» = noRecord }
 toldEncoded (N.Refused e) = toldRefusal e
 
 -- ---- the report
 abbrev pub reportLength : ℕ
-reportLength = 24
+reportLength = 28
 
 abbrev pub reportBytes : Told → List ℕ
-reportBytes t = threeBytes (t .length) (t .span .start) (t .span .end) ++ threeBytes (bits (t .value)) (bits (t .low)) (bits (t .high))
+reportBytes t =
+    threeBytes (t .length) (t .span .start) (t .span .end)
+    ++ (threeBytes (bits (t .value)) (bits (t .low)) (bits (t .high)) ++ u32Bytes (t .«record»))
 
 -- the lent report afterwards: its later bytes stay, and a shorter one stays whole
 abbrev pub reportAfter : Told → List ℕ → List ℕ

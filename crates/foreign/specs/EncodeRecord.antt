@@ -1,4 +1,4 @@
--- What encode_record answers, and what it leaves in out.
+-- What fsq_encode answers, and what it leaves in out.
 -- Definitions only.
 use Prim.Native.Nat.{ℕ}
 use mathlib.Core.List.{List}

@@ -1,4 +1,5 @@
 pub mod Crossing
 pub mod EncodeRecord
 pub mod ListRecord
+pub mod LoadShow
 pub mod ReadBytes

@@ -1,4 +1,4 @@
--- What list_record answers, and what it leaves in out.
+-- What fsq_list answers, and what it leaves in out.
 -- Definitions only.
 use Prim.Native.Nat.{ℕ, _%_}
 use mathlib.Core.List.{List}
@@ -8,12 +8,12 @@ use Rattle.lister.specs.declared.Listed.{Listed}
 use Rattle.lister.specs.declared.Listed.the-variants as N
 use Rattle.lister.specs.Listing.{outcome, sliceAfter}
 use Rattle.foreign.specs.declared.report.Told.{Told}
-use Rattle.foreign.specs.Crossing.{noSpan, toldRefusal, toldAlone}
+use Rattle.foreign.specs.Crossing.{noSpan, noRecord, toldRefusal, toldAlone}
 use Rattle.foreign.specs.EncodeRecord.{Record, wrong-length, unknown-code, of}
 
 -- 0 with the number of entries, or the refusal
 abbrev pub toldListed : Listed → Told
-toldListed (N.Count n) = record { number = 0; length = n % 4294967296; span = noSpan; value = pos 0; low = pos 0; high = pos 0 }
+toldListed (N.Count n) = record { number = 0; length = n % 4294967296; span = noSpan; value = pos 0; low = pos 0; high = pos 0; «record» = noRecord }
 toldListed (N.Refused e) = toldRefusal e
 
 abbrev pub toldListing : Record → ℕ → List ℕ → Told

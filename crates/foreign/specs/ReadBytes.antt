@@ -1,4 +1,4 @@
--- What read_bytes answers, and the 24 bytes that an instruction crosses as: six u32, little-endian. The first holds length, operation (002's
+-- What fsq_read answers, and the 24 bytes that an instruction crosses as: six u32, little-endian. The first holds length, operation (002's
 -- number), width (0 none, 1 Byte, 2 Word) and the form's opcode, a byte each; the second the form's extension; then two for each operand: kind,
 -- number and segment, a byte each, and displacement, immediate or target with a far target's segment, a word each.
 -- Definitions only.

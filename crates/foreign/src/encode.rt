@@ -27,11 +27,12 @@ fn told_record(rec: &[u8], offset: u16, out: &mut [u8]) -> Told
 //   rec      the record, 56 bytes
 //   offset   where its bytes are to stand
 //   out      gets the bytes at its front; its later bytes stay, and a refusal leaves it as it was
-//   report   gets, where it has 24 bytes: length, span start, span end (u32), value, low, high (i32), little-endian; its later bytes stay
+//   report   gets, where it has 28 bytes: length, span start, span end (u32), value, low, high (i32), record (u32), little-endian; its later bytes stay. The
+//            record is 4294967295: fsq_load alone names one
 //   answer   0, or the refusal's number; 14 where rec is not 56 bytes long, then 15 where one of its codes is unknown
-// In C: uint8_t encode_record(const uint8_t *rec, size_t rec_len, uint16_t offset, uint8_t *out, size_t out_len, uint8_t *report, size_t report_len);
+// In C: uint8_t fsq_encode(const uint8_t *rec, size_t rec_len, uint16_t offset, uint8_t *out, size_t out_len, uint8_t *report, size_t report_len);
 #[no_mangle]
-pub extern "C" fn encode_record(rec: &[u8], offset: u16, out: &mut [u8], report: &mut [u8]) -> u8
+pub extern "C" fn fsq_encode(rec: &[u8], offset: u16, out: &mut [u8], report: &mut [u8]) -> u8
     ensures { λ r. ⌜ r ≡ toldRecord (recordOf (now (rec .entry))) offset (now (out .entry)) .number ⌝ }
     ensures { λ _. ⌜ now (out .exit) ≡ outAfter (recordOf (now (rec .entry))) offset (now (out .entry)) ⌝ }
     ensures { λ _. ⌜ now (report .exit) ≡ reportAfter (toldRecord (recordOf (now (rec .entry))) offset (now (out .entry))) (now (report .entry)) ⌝ }

@@ -2,5 +2,6 @@
 // An answer crosses as its number, with a report beside it.
 pub mod encode;
 pub mod list;
+pub mod load;
 pub mod read;
 pub mod report;

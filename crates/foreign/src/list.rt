@@ -3,6 +3,7 @@ ghost use mathlib.Core.Path.{_≡_};
 ghost use Rattle.foreign.specs.Crossing.{reportAfter};
 ghost use Rattle.foreign.specs.EncodeRecord.{recordOf};
 ghost use Rattle.foreign.specs.ListRecord.{toldListed, toldListing, listAfter};
+use crate::report::NO_RECORD;
 use crate::report::Told;
 use crate::report::told_alone;
 use crate::report::told_refusal;
@@ -22,6 +23,7 @@ fn told_listed(listed: Listed) -> Told
             value: 0,
             low: 0,
             high: 0,
+            record: NO_RECORD,
         },
         Listed::Refused(e) => told_refusal(e),
     }
@@ -48,11 +50,11 @@ fn told_listing(rec: &[u8], offset: u16, out: &mut [u8]) -> Told
 //   offset   where the strings are to stand
 //   out      gets, where it has 96 bytes, entries of 8 bytes from its front: a string's length, its bytes, zeros; shorter strings first, equal
 //            lengths by their first differing byte. Its later bytes stay, and a refusal leaves it as it was
-//   report   as encode_record's; its length is the number of entries
-//   answer   0, or the refusal's number; 9 where out has fewer than 96 bytes; 14 and 15 as encode_record's
-// In C: uint8_t list_record(const uint8_t *rec, size_t rec_len, uint16_t offset, uint8_t *out, size_t out_len, uint8_t *report, size_t report_len);
+//   report   as fsq_encode's; its length is the number of entries
+//   answer   0, or the refusal's number; 9 where out has fewer than 96 bytes; 14 and 15 as fsq_encode's
+// In C: uint8_t fsq_list(const uint8_t *rec, size_t rec_len, uint16_t offset, uint8_t *out, size_t out_len, uint8_t *report, size_t report_len);
 #[no_mangle]
-pub extern "C" fn list_record(rec: &[u8], offset: u16, out: &mut [u8], report: &mut [u8]) -> u8
+pub extern "C" fn fsq_list(rec: &[u8], offset: u16, out: &mut [u8], report: &mut [u8]) -> u8
     ensures { λ r. ⌜ r ≡ toldListing (recordOf (now (rec .entry))) offset (now (out .entry)) .number ⌝ }
     ensures { λ _. ⌜ now (out .exit) ≡ listAfter (recordOf (now (rec .entry))) offset (now (out .entry)) ⌝ }
     ensures { λ _. ⌜ now (report .exit) ≡ reportAfter (toldListing (recordOf (now (rec .entry))) offset (now (out .entry))) (now (report .entry)) ⌝ }

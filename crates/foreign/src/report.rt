@@ -1,4 +1,4 @@
-// The report of 24 bytes that stands beside an answer's number.
+// The report of 28 bytes that stands beside an answer's number.
 ghost use mathlib.Core.Path.{_≡_};
 ghost use Prim.Native.Nat.{_+_, _≤_};
 ghost use lib.ListN.{length};
@@ -9,6 +9,9 @@ use mrc_compiler::ast::Span;
 use mrc_compiler::encoder::EncodeError;
 use mrc_compiler::encoder::Encoded;
 
+// The record of a report that names none.
+pub const NO_RECORD: u32 = 4294967295;
+
 // What an answer tells: its number, 0 where nothing is refused, and the report's fields.
 pub struct Told {
     pub number: u8,
@@ -17,6 +20,9 @@ pub struct Told {
     pub value: i32,
     pub low: i32,
     pub high: i32,
+
+    // The index of the record that a loader's refusal names, or NO_RECORD.
+    pub record: u32,
 }
 
 // A number with no report.
@@ -30,6 +36,7 @@ pub fn told_alone(number: u8) -> Told
         value: 0,
         low: 0,
         high: 0,
+        record: NO_RECORD,
     }
 }
 
@@ -49,6 +56,7 @@ pub fn told_refusal(e: EncodeError) -> Told
             value,
             low,
             high,
+            record: NO_RECORD,
         },
         EncodeError::RelativeJumpOutOfRange(span, _, _, distance) => Told {
             number: 6,
@@ -57,6 +65,7 @@ pub fn told_refusal(e: EncodeError) -> Told
             value: distance,
             low: 0,
             high: 0,
+            record: NO_RECORD,
         },
         EncodeError::NotSupported(span) => told_span(7, span),
         EncodeError::NotWellFormed(span) => told_span(8, span),
@@ -75,6 +84,7 @@ fn told_span(number: u8, span: Span) -> Told
         value: 0,
         low: 0,
         high: 0,
+        record: NO_RECORD,
     }
 }
 
@@ -90,6 +100,7 @@ pub fn told_encoded(encoded: Encoded) -> Told
             value: 0,
             low: 0,
             high: 0,
+            record: NO_RECORD,
         },
         Encoded::Refused(e) => told_refusal(e),
     }
@@ -127,11 +138,11 @@ pub fn put_three(report: &mut [u8], at: usize, a: u32, b: u32, c: u32)
     put_u32(report, at + 8, c)
 }
 
-// Writes the report's fields to its front. A report of less than 24 bytes stays as it was.
+// Writes the report's fields to its front. A report of less than 28 bytes stays as it was.
 pub fn write_report(told: Told, report: &mut [u8])
     ensures { λ _. ⌜ now (report .exit) ≡ reportAfter told (now (report .entry)) ⌝ }
 {
-    if report.len() < 24 {
+    if report.len() < 28 {
         return;
     }
     let span = told.span;
@@ -139,5 +150,6 @@ pub fn write_report(told: Told, report: &mut [u8])
     let low = bits_of(told.low);
     let high = bits_of(told.high);
     put_three(report, 0, told.length, span.start, span.end);
-    put_three(report, 12, value, low, high)
+    put_three(report, 12, value, low, high);
+    put_u32(report, 24, told.record)
 }

@@ -9,6 +9,8 @@ use mrc_compiler::encoder::OperandKind;
 use mrc_compiler::encoder::OperandSize;
 use mrc_compiler::encoder::generate::At;
 use mrc_compiler::encoder::generate::Code;
+use mrc_compiler::encoder::generate::FIRST_OPER_DST;
+use mrc_compiler::encoder::generate::FIRST_OPER_SRC;
 use mrc_compiler::encoder::generate::Plan;
 use mrc_compiler::encoder::generate::Why;
 use plans::Common;
@@ -44,19 +46,25 @@ fn add_byte(base: u8, insn: InstructionData) -> Plan
         OperandKind::Reg => match src_kind {
             OperandKind::Imm => {
                 if plans::is_zero(dst.rm) {
-                    plans::two(Code::Byte(base + 4), Code::ImmByte(1))
+                    plans::two(Code::Byte(base + 4), Code::ImmByte(FIRST_OPER_SRC))
                 } else {
-                    plans::two(Code::ModRM(0, 0x80, base / 8), Code::ImmByte(1))
+                    plans::two(
+                        Code::ModRM(FIRST_OPER_DST, 0x80, base / 8),
+                        Code::ImmByte(FIRST_OPER_SRC),
+                    )
                 }
             },
-            OperandKind::Reg => plans::one(Code::ModRegRM(0, base)),
+            OperandKind::Reg => plans::one(Code::ModRegRM(FIRST_OPER_DST, base)),
             OperandKind::Seg => Plan::Refused(Why::InvalidOperands, At::Operands),
-            OperandKind::Mem => plans::one(Code::ModRegRM(1, base + 2)),
+            OperandKind::Mem => plans::one(Code::ModRegRM(FIRST_OPER_SRC, base + 2)),
         },
         OperandKind::Seg => Plan::Refused(Why::InvalidOperands, At::Operands),
         OperandKind::Mem => match src_kind {
-            OperandKind::Imm => plans::two(Code::ModRM(0, 0x80, base / 8), Code::ImmByte(1)),
-            OperandKind::Reg => plans::one(Code::ModRegRM(0, base)),
+            OperandKind::Imm => plans::two(
+                Code::ModRM(FIRST_OPER_DST, 0x80, base / 8),
+                Code::ImmByte(FIRST_OPER_SRC),
+            ),
+            OperandKind::Reg => plans::one(Code::ModRegRM(FIRST_OPER_DST, base)),
             OperandKind::Seg => Plan::Refused(Why::InvalidOperands, At::Operands),
             OperandKind::Mem => Plan::Refused(Why::InvalidOperands, At::Operands),
         },
@@ -77,29 +85,41 @@ fn add_word(base: u8, insn: InstructionData) -> Plan
         OperandKind::Reg => match src_kind {
             OperandKind::Imm => {
                 if encoder::value_is_signed_byte(src.imm) {
-                    plans::two(Code::ModRM(0, 0x83, base / 8), Code::ImmByte(1))
+                    plans::two(
+                        Code::ModRM(FIRST_OPER_DST, 0x83, base / 8),
+                        Code::ImmByte(FIRST_OPER_SRC),
+                    )
                 } else {
                     if plans::is_zero(dst.rm) {
-                        plans::two(Code::Byte(base + 5), Code::ImmWord(1))
+                        plans::two(Code::Byte(base + 5), Code::ImmWord(FIRST_OPER_SRC))
                     } else {
-                        plans::two(Code::ModRM(0, 0x81, base / 8), Code::ImmWord(1))
+                        plans::two(
+                            Code::ModRM(FIRST_OPER_DST, 0x81, base / 8),
+                            Code::ImmWord(FIRST_OPER_SRC),
+                        )
                     }
                 }
             },
-            OperandKind::Reg => plans::one(Code::ModRegRM(0, base + 1)),
+            OperandKind::Reg => plans::one(Code::ModRegRM(FIRST_OPER_DST, base + 1)),
             OperandKind::Seg => Plan::Refused(Why::InvalidOperands, At::Operands),
-            OperandKind::Mem => plans::one(Code::ModRegRM(1, base + 3)),
+            OperandKind::Mem => plans::one(Code::ModRegRM(FIRST_OPER_SRC, base + 3)),
         },
         OperandKind::Seg => Plan::Refused(Why::InvalidOperands, At::Operands),
         OperandKind::Mem => match src_kind {
             OperandKind::Imm => {
                 if encoder::value_is_signed_byte(src.imm) {
-                    plans::two(Code::ModRM(0, 0x83, base / 8), Code::ImmByte(1))
+                    plans::two(
+                        Code::ModRM(FIRST_OPER_DST, 0x83, base / 8),
+                        Code::ImmByte(FIRST_OPER_SRC),
+                    )
                 } else {
-                    plans::two(Code::ModRM(0, 0x81, base / 8), Code::ImmWord(1))
+                    plans::two(
+                        Code::ModRM(FIRST_OPER_DST, 0x81, base / 8),
+                        Code::ImmWord(FIRST_OPER_SRC),
+                    )
                 }
             },
-            OperandKind::Reg => plans::one(Code::ModRegRM(0, base + 1)),
+            OperandKind::Reg => plans::one(Code::ModRegRM(FIRST_OPER_DST, base + 1)),
             OperandKind::Seg => Plan::Refused(Why::InvalidOperands, At::Operands),
             OperandKind::Mem => Plan::Refused(Why::InvalidOperands, At::Operands),
         },
@@ -116,15 +136,15 @@ pub fn encode_group_not_neg_mul_imul_div_idiv(base: u8, insn: InstructionData) -
         OperandSize::Unspecified => Plan::Refused(Why::OperandSizeNotSpecified, At::Operands),
         OperandSize::Byte => match kind {
             OperandKind::Imm => Plan::Refused(Why::InvalidOperands, At::Operands),
-            OperandKind::Reg => plans::one(Code::ModRM(0, 0xF6, base)),
+            OperandKind::Reg => plans::one(Code::ModRM(FIRST_OPER_DST, 0xF6, base)),
             OperandKind::Seg => Plan::Refused(Why::InvalidOperands, At::Operands),
-            OperandKind::Mem => plans::one(Code::ModRM(0, 0xF6, base)),
+            OperandKind::Mem => plans::one(Code::ModRM(FIRST_OPER_DST, 0xF6, base)),
         },
         OperandSize::Word => match kind {
             OperandKind::Imm => Plan::Refused(Why::InvalidOperands, At::Operands),
-            OperandKind::Reg => plans::one(Code::ModRM(0, 0xF7, base)),
+            OperandKind::Reg => plans::one(Code::ModRM(FIRST_OPER_DST, 0xF7, base)),
             OperandKind::Seg => Plan::Refused(Why::InvalidOperands, At::Operands),
-            OperandKind::Mem => plans::one(Code::ModRM(0, 0xF7, base)),
+            OperandKind::Mem => plans::one(Code::ModRM(FIRST_OPER_DST, 0xF7, base)),
         },
     }
 }
@@ -158,7 +178,7 @@ fn test_byte(insn: InstructionData) -> Plan
         OperandKind::Reg => match src_kind {
             OperandKind::Imm => {
                 if plans::is_zero(dst.rm) {
-                    plans::two(Code::Byte(0xA8), Code::ImmByte(1))
+                    plans::two(Code::Byte(0xA8), Code::ImmByte(FIRST_OPER_SRC))
                 } else {
                     Plan::Refused(Why::NotSupported, At::Operands)
                 }
@@ -213,15 +233,15 @@ pub fn encode_group_inc_dec(base: u8, insn: InstructionData) -> Plan
         OperandSize::Unspecified => Plan::Refused(Why::InvalidOperandSize, At::First),
         OperandSize::Byte => match kind {
             OperandKind::Imm => Plan::Refused(Why::InvalidOperands, At::Operands),
-            OperandKind::Reg => plans::one(Code::ModRM(0, 0xFE, base)),
+            OperandKind::Reg => plans::one(Code::ModRM(FIRST_OPER_DST, 0xFE, base)),
             OperandKind::Seg => Plan::Refused(Why::InvalidOperands, At::Operands),
-            OperandKind::Mem => plans::one(Code::ModRM(0, 0xFE, base)),
+            OperandKind::Mem => plans::one(Code::ModRM(FIRST_OPER_DST, 0xFE, base)),
         },
         OperandSize::Word => match kind {
             OperandKind::Imm => Plan::Refused(Why::InvalidOperands, At::Operands),
-            OperandKind::Reg => plans::one(Code::RegByte(0, 0x40 + 8 * base)),
+            OperandKind::Reg => plans::one(Code::RegByte(FIRST_OPER_DST, 0x40 + 8 * base)),
             OperandKind::Seg => Plan::Refused(Why::InvalidOperands, At::Operands),
-            OperandKind::Mem => plans::one(Code::ModRM(0, 0xFF, base)),
+            OperandKind::Mem => plans::one(Code::ModRM(FIRST_OPER_DST, 0xFF, base)),
         },
     }
 }
@@ -252,14 +272,14 @@ fn shift_byte(base: u8, insn: InstructionData) -> Plan
         OperandKind::Reg => match src_kind {
             OperandKind::Imm => {
                 if plans::value_is_one(src.imm) {
-                    plans::one(Code::ModRM(0, 0xD0, base))
+                    plans::one(Code::ModRM(FIRST_OPER_DST, 0xD0, base))
                 } else {
                     Plan::Refused(Why::InvalidOperands, At::Operands)
                 }
             },
             OperandKind::Reg => {
                 if plans::is_cl(src_size, src.rm) {
-                    plans::one(Code::ModRM(0, 0xD2, base))
+                    plans::one(Code::ModRM(FIRST_OPER_DST, 0xD2, base))
                 } else {
                     Plan::Refused(Why::InvalidOperands, At::Operands)
                 }
@@ -271,14 +291,14 @@ fn shift_byte(base: u8, insn: InstructionData) -> Plan
         OperandKind::Mem => match src_kind {
             OperandKind::Imm => {
                 if plans::value_is_one(src.imm) {
-                    plans::one(Code::ModRM(0, 0xD0, base))
+                    plans::one(Code::ModRM(FIRST_OPER_DST, 0xD0, base))
                 } else {
                     Plan::Refused(Why::InvalidOperands, At::Operands)
                 }
             },
             OperandKind::Reg => {
                 if plans::is_cl(src_size, src.rm) {
-                    plans::one(Code::ModRM(0, 0xD2, base))
+                    plans::one(Code::ModRM(FIRST_OPER_DST, 0xD2, base))
                 } else {
                     Plan::Refused(Why::InvalidOperands, At::Operands)
                 }
@@ -302,14 +322,14 @@ fn shift_word(base: u8, insn: InstructionData) -> Plan
         OperandKind::Reg => match src_kind {
             OperandKind::Imm => {
                 if plans::value_is_one(src.imm) {
-                    plans::one(Code::ModRM(0, 0xD1, base))
+                    plans::one(Code::ModRM(FIRST_OPER_DST, 0xD1, base))
                 } else {
                     Plan::Refused(Why::InvalidOperands, At::Operands)
                 }
             },
             OperandKind::Reg => {
                 if plans::is_cl(src_size, src.rm) {
-                    plans::one(Code::ModRM(0, 0xD3, base))
+                    plans::one(Code::ModRM(FIRST_OPER_DST, 0xD3, base))
                 } else {
                     Plan::Refused(Why::InvalidOperands, At::Operands)
                 }
@@ -321,14 +341,14 @@ fn shift_word(base: u8, insn: InstructionData) -> Plan
         OperandKind::Mem => match src_kind {
             OperandKind::Imm => {
                 if plans::value_is_one(src.imm) {
-                    plans::one(Code::ModRM(0, 0xD1, base))
+                    plans::one(Code::ModRM(FIRST_OPER_DST, 0xD1, base))
                 } else {
                     Plan::Refused(Why::InvalidOperands, At::Operands)
                 }
             },
             OperandKind::Reg => {
                 if plans::is_cl(src_size, src.rm) {
-                    plans::one(Code::ModRM(0, 0xD3, base))
+                    plans::one(Code::ModRM(FIRST_OPER_DST, 0xD3, base))
                 } else {
                     Plan::Refused(Why::InvalidOperands, At::Operands)
                 }

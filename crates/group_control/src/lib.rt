@@ -9,6 +9,7 @@ use mrc_compiler::encoder::OperandKind;
 use mrc_compiler::encoder::OperandSize;
 use mrc_compiler::encoder::generate::At;
 use mrc_compiler::encoder::generate::Code;
+use mrc_compiler::encoder::generate::FIRST_OPER_DST;
 use mrc_compiler::encoder::generate::Plan;
 use mrc_compiler::encoder::generate::Why;
 
@@ -32,37 +33,37 @@ pub fn encode_group_call(_base: u8, insn: InstructionData) -> Plan
     let jmp_kind = dst.jmp_kind;
     match kind {
         OperandKind::Imm => match jmp_kind {
-            JumpKind::None => plans::two(Code::Byte(0xE8), Code::RelWord(0)),
+            JumpKind::None => plans::two(Code::Byte(0xE8), Code::RelWord(FIRST_OPER_DST)),
             JumpKind::Far => Plan::Refused(Why::InvalidOperands, At::Operands),
-            JumpKind::Near => plans::two(Code::Byte(0xE8), Code::RelWord(0)),
+            JumpKind::Near => plans::two(Code::Byte(0xE8), Code::RelWord(FIRST_OPER_DST)),
             JumpKind::Short => Plan::Refused(Why::InvalidOperands, At::Operands),
         },
         OperandKind::Reg => match jmp_kind {
             JumpKind::None => match size {
-                OperandSize::Unspecified => plans::one(Code::ModRM(0, 0xFF, 2)),
+                OperandSize::Unspecified => plans::one(Code::ModRM(FIRST_OPER_DST, 0xFF, 2)),
                 OperandSize::Byte => Plan::Refused(Why::InvalidOperands, At::Operands),
-                OperandSize::Word => plans::one(Code::ModRM(0, 0xFF, 2)),
+                OperandSize::Word => plans::one(Code::ModRM(FIRST_OPER_DST, 0xFF, 2)),
             },
             JumpKind::Far => Plan::Refused(Why::InvalidOperands, At::Operands),
             JumpKind::Near => match size {
-                OperandSize::Unspecified => plans::one(Code::ModRM(0, 0xFF, 2)),
+                OperandSize::Unspecified => plans::one(Code::ModRM(FIRST_OPER_DST, 0xFF, 2)),
                 OperandSize::Byte => Plan::Refused(Why::InvalidOperands, At::Operands),
-                OperandSize::Word => plans::one(Code::ModRM(0, 0xFF, 2)),
+                OperandSize::Word => plans::one(Code::ModRM(FIRST_OPER_DST, 0xFF, 2)),
             },
             JumpKind::Short => Plan::Refused(Why::InvalidOperands, At::Operands),
         },
         OperandKind::Seg => Plan::Refused(Why::InvalidOperands, At::Operands),
         OperandKind::Mem => match jmp_kind {
             JumpKind::None => match size {
-                OperandSize::Unspecified => plans::one(Code::ModRM(0, 0xFF, 2)),
+                OperandSize::Unspecified => plans::one(Code::ModRM(FIRST_OPER_DST, 0xFF, 2)),
                 OperandSize::Byte => Plan::Refused(Why::InvalidOperands, At::Operands),
-                OperandSize::Word => plans::one(Code::ModRM(0, 0xFF, 2)),
+                OperandSize::Word => plans::one(Code::ModRM(FIRST_OPER_DST, 0xFF, 2)),
             },
             JumpKind::Far => Plan::Refused(Why::NotSupported, At::Operands),
             JumpKind::Near => match size {
-                OperandSize::Unspecified => plans::one(Code::ModRM(0, 0xFF, 2)),
+                OperandSize::Unspecified => plans::one(Code::ModRM(FIRST_OPER_DST, 0xFF, 2)),
                 OperandSize::Byte => Plan::Refused(Why::InvalidOperands, At::Operands),
-                OperandSize::Word => plans::one(Code::ModRM(0, 0xFF, 2)),
+                OperandSize::Word => plans::one(Code::ModRM(FIRST_OPER_DST, 0xFF, 2)),
             },
             JumpKind::Short => Plan::Refused(Why::InvalidOperands, At::Operands),
         },
@@ -80,9 +81,9 @@ pub fn encode_group_jmp(_base: u8, insn: InstructionData) -> Plan
         OperandKind::Imm => {
             if encoder::value_is_word(dst.imm) {
                 match jmp_kind {
-                    JumpKind::None => plans::two(Code::Byte(0xE9), Code::RelWord(0)),
-                    JumpKind::Far => plans::two(Code::Byte(0xEA), Code::FarWords(0)),
-                    JumpKind::Near => plans::two(Code::Byte(0xE9), Code::RelWord(0)),
+                    JumpKind::None => plans::two(Code::Byte(0xE9), Code::RelWord(FIRST_OPER_DST)),
+                    JumpKind::Far => plans::two(Code::Byte(0xEA), Code::FarWords(FIRST_OPER_DST)),
+                    JumpKind::Near => plans::two(Code::Byte(0xE9), Code::RelWord(FIRST_OPER_DST)),
                     JumpKind::Short => Plan::Refused(Why::NotSupported, At::Operands),
                 }
             } else {
@@ -91,30 +92,30 @@ pub fn encode_group_jmp(_base: u8, insn: InstructionData) -> Plan
         },
         OperandKind::Reg => match jmp_kind {
             JumpKind::None => match size {
-                OperandSize::Unspecified => plans::one(Code::ModRM(0, 0xFF, 4)),
+                OperandSize::Unspecified => plans::one(Code::ModRM(FIRST_OPER_DST, 0xFF, 4)),
                 OperandSize::Byte => Plan::Refused(Why::InvalidOperands, At::Operands),
-                OperandSize::Word => plans::one(Code::ModRM(0, 0xFF, 4)),
+                OperandSize::Word => plans::one(Code::ModRM(FIRST_OPER_DST, 0xFF, 4)),
             },
             JumpKind::Far => Plan::Refused(Why::InvalidOperands, At::First),
             JumpKind::Near => match size {
-                OperandSize::Unspecified => plans::one(Code::ModRM(0, 0xFF, 4)),
+                OperandSize::Unspecified => plans::one(Code::ModRM(FIRST_OPER_DST, 0xFF, 4)),
                 OperandSize::Byte => Plan::Refused(Why::InvalidOperands, At::Operands),
-                OperandSize::Word => plans::one(Code::ModRM(0, 0xFF, 4)),
+                OperandSize::Word => plans::one(Code::ModRM(FIRST_OPER_DST, 0xFF, 4)),
             },
             JumpKind::Short => Plan::Refused(Why::InvalidOperands, At::First),
         },
         OperandKind::Seg => Plan::Refused(Why::InvalidOperands, At::Operands),
         OperandKind::Mem => match jmp_kind {
             JumpKind::None => match size {
-                OperandSize::Unspecified => plans::one(Code::ModRM(0, 0xFF, 4)),
+                OperandSize::Unspecified => plans::one(Code::ModRM(FIRST_OPER_DST, 0xFF, 4)),
                 OperandSize::Byte => Plan::Refused(Why::InvalidOperands, At::Operands),
-                OperandSize::Word => plans::one(Code::ModRM(0, 0xFF, 4)),
+                OperandSize::Word => plans::one(Code::ModRM(FIRST_OPER_DST, 0xFF, 4)),
             },
             JumpKind::Far => Plan::Refused(Why::InvalidOperands, At::First),
             JumpKind::Near => match size {
-                OperandSize::Unspecified => plans::one(Code::ModRM(0, 0xFF, 4)),
+                OperandSize::Unspecified => plans::one(Code::ModRM(FIRST_OPER_DST, 0xFF, 4)),
                 OperandSize::Byte => Plan::Refused(Why::InvalidOperands, At::Operands),
-                OperandSize::Word => plans::one(Code::ModRM(0, 0xFF, 4)),
+                OperandSize::Word => plans::one(Code::ModRM(FIRST_OPER_DST, 0xFF, 4)),
             },
             JumpKind::Short => Plan::Refused(Why::InvalidOperands, At::First),
         },
@@ -129,10 +130,10 @@ pub fn encode_group_jcc(base: u8, insn: InstructionData) -> Plan
     let jmp_kind = dst.jmp_kind;
     match kind {
         OperandKind::Imm => match jmp_kind {
-            JumpKind::None => plans::two(Code::Byte(base), Code::RelByte(0, 2)),
+            JumpKind::None => plans::two(Code::Byte(base), Code::RelByte(FIRST_OPER_DST, 2)),
             JumpKind::Far => Plan::Refused(Why::InvalidOperands, At::First),
             JumpKind::Near => Plan::Refused(Why::InvalidOperands, At::First),
-            JumpKind::Short => plans::two(Code::Byte(base), Code::RelByte(0, 2)),
+            JumpKind::Short => plans::two(Code::Byte(base), Code::RelByte(FIRST_OPER_DST, 2)),
         },
         OperandKind::Reg => Plan::Refused(Why::InvalidOperands, At::First),
         OperandKind::Seg => Plan::Refused(Why::InvalidOperands, At::First),
@@ -148,10 +149,10 @@ pub fn encode_group_loopc(base: u8, insn: InstructionData) -> Plan
     let jmp_kind = dst.jmp_kind;
     match kind {
         OperandKind::Imm => match jmp_kind {
-            JumpKind::None => plans::two(Code::Byte(base), Code::RelByte(0, 2)),
+            JumpKind::None => plans::two(Code::Byte(base), Code::RelByte(FIRST_OPER_DST, 2)),
             JumpKind::Far => Plan::Refused(Why::InvalidOperands, At::Operands),
             JumpKind::Near => Plan::Refused(Why::InvalidOperands, At::Operands),
-            JumpKind::Short => plans::two(Code::Byte(base), Code::RelByte(0, 2)),
+            JumpKind::Short => plans::two(Code::Byte(base), Code::RelByte(FIRST_OPER_DST, 2)),
         },
         OperandKind::Reg => Plan::Refused(Why::InvalidOperands, At::Operands),
         OperandKind::Seg => Plan::Refused(Why::InvalidOperands, At::Operands),
@@ -177,7 +178,7 @@ pub fn encode_group_int(_base: u8, insn: InstructionData) -> Plan
     let dst = insn.opers[0];
     let kind = dst.kind;
     match kind {
-        OperandKind::Imm => plans::two(Code::Byte(0xCD), Code::ImmByte(0)),
+        OperandKind::Imm => plans::two(Code::Byte(0xCD), Code::ImmByte(FIRST_OPER_DST)),
         OperandKind::Reg => Plan::Refused(Why::InvalidOperands, At::First),
         OperandKind::Seg => Plan::Refused(Why::InvalidOperands, At::First),
         OperandKind::Mem => Plan::Refused(Why::InvalidOperands, At::First),

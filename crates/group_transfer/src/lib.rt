@@ -8,6 +8,8 @@ use mrc_compiler::encoder::OperandKind;
 use mrc_compiler::encoder::OperandSize;
 use mrc_compiler::encoder::generate::At;
 use mrc_compiler::encoder::generate::Code;
+use mrc_compiler::encoder::generate::FIRST_OPER_DST;
+use mrc_compiler::encoder::generate::FIRST_OPER_SRC;
 use mrc_compiler::encoder::generate::Plan;
 use mrc_compiler::encoder::generate::Why;
 use plans::Common;
@@ -39,33 +41,45 @@ fn mov_byte(insn: InstructionData) -> Plan
     match dst_kind {
         OperandKind::Imm => Plan::Refused(Why::InvalidOperands, At::Operands),
         OperandKind::Reg => match src_kind {
-            OperandKind::Imm => plans::two(Code::RegByte(0, 0xB0), Code::ImmByte(1)),
-            OperandKind::Reg => plans::one(Code::ModRegRM(0, 0x88)),
+            OperandKind::Imm => plans::two(
+                Code::RegByte(FIRST_OPER_DST, 0xB0),
+                Code::ImmByte(FIRST_OPER_SRC),
+            ),
+            OperandKind::Reg => plans::one(Code::ModRegRM(FIRST_OPER_DST, 0x88)),
             OperandKind::Seg => Plan::Refused(Why::InvalidOperands, At::Operands),
             OperandKind::Mem => {
                 if plans::is_zero(dst.rm) {
                     if encoder::is_direct_address(src.mode, src.rm) {
-                        plans::two(Code::MemByte(1, 0xA0), Code::DispWord(1))
+                        plans::two(
+                            Code::MemByte(FIRST_OPER_SRC, 0xA0),
+                            Code::DispWord(FIRST_OPER_SRC),
+                        )
                     } else {
-                        plans::one(Code::ModRegRM(1, 0x8A))
+                        plans::one(Code::ModRegRM(FIRST_OPER_SRC, 0x8A))
                     }
                 } else {
-                    plans::one(Code::ModRegRM(1, 0x8A))
+                    plans::one(Code::ModRegRM(FIRST_OPER_SRC, 0x8A))
                 }
             },
         },
         OperandKind::Seg => Plan::Refused(Why::InvalidOperands, At::Operands),
         OperandKind::Mem => match src_kind {
-            OperandKind::Imm => plans::two(Code::ModRM(0, 0xC6, 0), Code::ImmSignedByte(1)),
+            OperandKind::Imm => plans::two(
+                Code::ModRM(FIRST_OPER_DST, 0xC6, 0),
+                Code::ImmSignedByte(FIRST_OPER_SRC),
+            ),
             OperandKind::Reg => {
                 if encoder::is_direct_address(dst.mode, dst.rm) {
                     if plans::is_zero(src.rm) {
-                        plans::two(Code::MemByte(0, 0xA2), Code::DispWord(0))
+                        plans::two(
+                            Code::MemByte(FIRST_OPER_DST, 0xA2),
+                            Code::DispWord(FIRST_OPER_DST),
+                        )
                     } else {
-                        plans::one(Code::ModRegRM(0, 0x88))
+                        plans::one(Code::ModRegRM(FIRST_OPER_DST, 0x88))
                     }
                 } else {
-                    plans::one(Code::ModRegRM(0, 0x88))
+                    plans::one(Code::ModRegRM(FIRST_OPER_DST, 0x88))
                 }
             },
             OperandKind::Seg => Plan::Refused(Why::InvalidOperands, At::Operands),
@@ -85,18 +99,24 @@ fn mov_word(insn: InstructionData) -> Plan
     match dst_kind {
         OperandKind::Imm => Plan::Refused(Why::InvalidOperands, At::Operands),
         OperandKind::Reg => match src_kind {
-            OperandKind::Imm => plans::two(Code::RegByte(0, 0xB8), Code::ImmWord(1)),
-            OperandKind::Reg => plans::one(Code::ModRegRM(0, 0x89)),
-            OperandKind::Seg => plans::one(Code::ModRegRM(0, 0x8C)),
+            OperandKind::Imm => plans::two(
+                Code::RegByte(FIRST_OPER_DST, 0xB8),
+                Code::ImmWord(FIRST_OPER_SRC),
+            ),
+            OperandKind::Reg => plans::one(Code::ModRegRM(FIRST_OPER_DST, 0x89)),
+            OperandKind::Seg => plans::one(Code::ModRegRM(FIRST_OPER_DST, 0x8C)),
             OperandKind::Mem => {
                 if plans::is_zero(dst.rm) {
                     if encoder::is_direct_address(src.mode, src.rm) {
-                        plans::two(Code::MemByte(1, 0xA1), Code::DispWord(1))
+                        plans::two(
+                            Code::MemByte(FIRST_OPER_SRC, 0xA1),
+                            Code::DispWord(FIRST_OPER_SRC),
+                        )
                     } else {
-                        plans::one(Code::ModRegRM(1, 0x8B))
+                        plans::one(Code::ModRegRM(FIRST_OPER_SRC, 0x8B))
                     }
                 } else {
-                    plans::one(Code::ModRegRM(1, 0x8B))
+                    plans::one(Code::ModRegRM(FIRST_OPER_SRC, 0x8B))
                 }
             },
         },
@@ -106,26 +126,32 @@ fn mov_word(insn: InstructionData) -> Plan
             } else {
                 match src_kind {
                     OperandKind::Imm => Plan::Refused(Why::InvalidOperands, At::Operands),
-                    OperandKind::Reg => plans::one(Code::ModRegRM(1, 0x8E)),
+                    OperandKind::Reg => plans::one(Code::ModRegRM(FIRST_OPER_SRC, 0x8E)),
                     OperandKind::Seg => Plan::Refused(Why::InvalidOperands, At::Operands),
-                    OperandKind::Mem => plans::one(Code::ModRegRM(1, 0x8E)),
+                    OperandKind::Mem => plans::one(Code::ModRegRM(FIRST_OPER_SRC, 0x8E)),
                 }
             }
         },
         OperandKind::Mem => match src_kind {
-            OperandKind::Imm => plans::two(Code::ModRM(0, 0xC7, 0), Code::ImmSignedWord(1)),
+            OperandKind::Imm => plans::two(
+                Code::ModRM(FIRST_OPER_DST, 0xC7, 0),
+                Code::ImmSignedWord(FIRST_OPER_SRC),
+            ),
             OperandKind::Reg => {
                 if encoder::is_direct_address(dst.mode, dst.rm) {
                     if plans::is_zero(src.rm) {
-                        plans::two(Code::MemByte(0, 0xA3), Code::DispWord(0))
+                        plans::two(
+                            Code::MemByte(FIRST_OPER_DST, 0xA3),
+                            Code::DispWord(FIRST_OPER_DST),
+                        )
                     } else {
-                        plans::one(Code::ModRegRM(0, 0x89))
+                        plans::one(Code::ModRegRM(FIRST_OPER_DST, 0x89))
                     }
                 } else {
-                    plans::one(Code::ModRegRM(0, 0x89))
+                    plans::one(Code::ModRegRM(FIRST_OPER_DST, 0x89))
                 }
             },
-            OperandKind::Seg => plans::one(Code::ModRegRM(0, 0x8C)),
+            OperandKind::Seg => plans::one(Code::ModRegRM(FIRST_OPER_DST, 0x8C)),
             OperandKind::Mem => Plan::Refused(Why::InvalidOperands, At::Operands),
         },
     }
@@ -164,9 +190,9 @@ fn xchg_byte(insn: InstructionData) -> Plan
         },
         OperandKind::Reg => match src_kind {
             OperandKind::Imm => Plan::Refused(Why::InvalidOperands, At::Operands),
-            OperandKind::Reg => plans::one(Code::ModRegRM(1, 0x86)),
+            OperandKind::Reg => plans::one(Code::ModRegRM(FIRST_OPER_SRC, 0x86)),
             OperandKind::Seg => Plan::Refused(Why::InvalidOperands, At::Operands),
-            OperandKind::Mem => plans::one(Code::ModRegRM(1, 0x86)),
+            OperandKind::Mem => plans::one(Code::ModRegRM(FIRST_OPER_SRC, 0x86)),
         },
         OperandKind::Seg => match src_kind {
             OperandKind::Imm => Plan::Refused(Why::InvalidOperands, At::Operands),
@@ -176,7 +202,7 @@ fn xchg_byte(insn: InstructionData) -> Plan
         },
         OperandKind::Mem => match src_kind {
             OperandKind::Imm => Plan::Refused(Why::InvalidOperands, At::Operands),
-            OperandKind::Reg => plans::one(Code::ModRegRM(0, 0x86)),
+            OperandKind::Reg => plans::one(Code::ModRegRM(FIRST_OPER_DST, 0x86)),
             OperandKind::Seg => Plan::Refused(Why::InvalidOperands, At::Operands),
             OperandKind::Mem => Plan::Refused(Why::InvalidOperands, At::Operands),
         },
@@ -202,17 +228,17 @@ fn xchg_word(insn: InstructionData) -> Plan
             OperandKind::Imm => Plan::Refused(Why::InvalidOperands, At::Operands),
             OperandKind::Reg => {
                 if plans::is_zero(dst.rm) {
-                    plans::one(Code::RegByte(1, 0x90))
+                    plans::one(Code::RegByte(FIRST_OPER_SRC, 0x90))
                 } else {
                     if plans::is_zero(src.rm) {
-                        plans::one(Code::RegByte(0, 0x90))
+                        plans::one(Code::RegByte(FIRST_OPER_DST, 0x90))
                     } else {
-                        plans::one(Code::ModRegRM(1, 0x87))
+                        plans::one(Code::ModRegRM(FIRST_OPER_SRC, 0x87))
                     }
                 }
             },
             OperandKind::Seg => Plan::Refused(Why::InvalidOperands, At::Operands),
-            OperandKind::Mem => plans::one(Code::ModRegRM(1, 0x87)),
+            OperandKind::Mem => plans::one(Code::ModRegRM(FIRST_OPER_SRC, 0x87)),
         },
         OperandKind::Seg => match src_kind {
             OperandKind::Imm => Plan::Refused(Why::InvalidOperands, At::Operands),
@@ -222,7 +248,7 @@ fn xchg_word(insn: InstructionData) -> Plan
         },
         OperandKind::Mem => match src_kind {
             OperandKind::Imm => Plan::Refused(Why::InvalidOperands, At::Operands),
-            OperandKind::Reg => plans::one(Code::ModRegRM(0, 0x87)),
+            OperandKind::Reg => plans::one(Code::ModRegRM(FIRST_OPER_DST, 0x87)),
             OperandKind::Seg => Plan::Refused(Why::InvalidOperands, At::Operands),
             OperandKind::Mem => Plan::Refused(Why::InvalidOperands, At::Operands),
         },
@@ -240,9 +266,9 @@ pub fn encode_group_push(_base: u8, insn: InstructionData) -> Plan
         OperandKind::Reg => match size {
             OperandSize::Unspecified => Plan::Refused(Why::InvalidOperands, At::First),
             OperandSize::Byte => Plan::Refused(Why::InvalidOperands, At::First),
-            OperandSize::Word => plans::one(Code::RegByte(0, 0x50)),
+            OperandSize::Word => plans::one(Code::RegByte(FIRST_OPER_DST, 0x50)),
         },
-        OperandKind::Seg => plans::one(Code::SegByte(0, 0x06)),
+        OperandKind::Seg => plans::one(Code::SegByte(FIRST_OPER_DST, 0x06)),
         OperandKind::Mem => match size {
             OperandSize::Unspecified => Plan::Refused(Why::InvalidOperands, At::First),
             OperandSize::Byte => Plan::Refused(Why::InvalidOperands, At::First),
@@ -262,12 +288,12 @@ pub fn encode_group_pop(_base: u8, insn: InstructionData) -> Plan
         OperandSize::Byte => Plan::Refused(Why::InvalidOperandSize, At::First),
         OperandSize::Word => match kind {
             OperandKind::Imm => Plan::Refused(Why::InvalidOperandSize, At::First),
-            OperandKind::Reg => plans::one(Code::RegByte(0, 0x58)),
+            OperandKind::Reg => plans::one(Code::RegByte(FIRST_OPER_DST, 0x58)),
             OperandKind::Seg => {
                 if plans::is_cs(dst.rm) {
                     Plan::Refused(Why::InvalidOperands, At::Operands)
                 } else {
-                    plans::one(Code::SegByte(0, 0x07))
+                    plans::one(Code::SegByte(FIRST_OPER_DST, 0x07))
                 }
             },
             OperandKind::Mem => Plan::Refused(Why::NotSupported, At::Operands),
@@ -292,7 +318,7 @@ pub fn encode_group_lea(base: u8, insn: InstructionData) -> Plan
                 OperandKind::Imm => Plan::Refused(Why::InvalidOperands, At::Operands),
                 OperandKind::Reg => Plan::Refused(Why::InvalidOperands, At::Operands),
                 OperandKind::Seg => Plan::Refused(Why::InvalidOperands, At::Operands),
-                OperandKind::Mem => plans::one(Code::ModRegRM(1, base)),
+                OperandKind::Mem => plans::one(Code::ModRegRM(FIRST_OPER_SRC, base)),
             },
         },
         OperandKind::Seg => Plan::Refused(Why::InvalidOperands, At::Operands),
@@ -321,7 +347,7 @@ pub fn encode_group_xlat(_base: u8, insn: InstructionData) -> Plan
             OperandKind::Seg => Plan::Refused(Why::InvalidOperands, At::Operands),
             OperandKind::Mem => {
                 if plans::is_bx(dst.mode, dst.rm) {
-                    plans::one(Code::MemByte(0, 0xD7))
+                    plans::one(Code::MemByte(FIRST_OPER_DST, 0xD7))
                 } else {
                     Plan::Refused(Why::InvalidOperands, At::Operands)
                 }
@@ -346,7 +372,10 @@ pub fn encode_group_in(_base: u8, insn: InstructionData) -> Plan
             OperandSize::Byte => {
                 if plans::is_zero(dst.rm) {
                     match src_kind {
-                        OperandKind::Imm => plans::two(Code::Byte(0xE4), Code::ImmByte(1)),
+                        OperandKind::Imm => plans::two(
+                            Code::Byte(0xE4),
+                            Code::ImmByte(FIRST_OPER_SRC),
+                        ),
                         OperandKind::Reg => {
                             if plans::is_dx(src_size, src.rm) {
                                 plans::one(Code::Byte(0xEC))
@@ -364,7 +393,10 @@ pub fn encode_group_in(_base: u8, insn: InstructionData) -> Plan
             OperandSize::Word => {
                 if plans::is_zero(dst.rm) {
                     match src_kind {
-                        OperandKind::Imm => plans::two(Code::Byte(0xE5), Code::ImmByte(1)),
+                        OperandKind::Imm => plans::two(
+                            Code::Byte(0xE5),
+                            Code::ImmByte(FIRST_OPER_SRC),
+                        ),
                         OperandKind::Reg => {
                             if plans::is_dx(src_size, src.rm) {
                                 plans::one(Code::Byte(0xED))
@@ -401,14 +433,14 @@ pub fn encode_group_out(_base: u8, insn: InstructionData) -> Plan
                 OperandSize::Unspecified => Plan::Refused(Why::InvalidOperands, At::Operands),
                 OperandSize::Byte => {
                     if plans::is_zero(src.rm) {
-                        plans::two(Code::Byte(0xE6), Code::ImmByte(0))
+                        plans::two(Code::Byte(0xE6), Code::ImmByte(FIRST_OPER_DST))
                     } else {
                         Plan::Refused(Why::InvalidOperands, At::Operands)
                     }
                 },
                 OperandSize::Word => {
                     if plans::is_zero(src.rm) {
-                        plans::two(Code::Byte(0xE7), Code::ImmByte(0))
+                        plans::two(Code::Byte(0xE7), Code::ImmByte(FIRST_OPER_DST))
                     } else {
                         Plan::Refused(Why::InvalidOperands, At::Operands)
                     }

@@ -15,10 +15,11 @@ use Rattle.x86.specs.declared.Read.the-variants.{Whole, Nothing, More}
 use Rattle.x86.specs.Reading.{reads}
 use Rattle.answers.specs.Answer.{Answer, bytes, refused, answer}
 use Rattle.answers.proofs.Accepted.{accepted-reads}
-use Rattle.emit.specs.declared.ByteRun.{ByteRun}
+use Rattle.emitter.specs.declared.ByteRun.{ByteRun}
 use Rattle.emit.specs.declared.Emitted.{Emitted}
 use Rattle.emit.specs.declared.Refusal.the-variants as R
-use Rattle.emit.specs.Emit.{emptyRun, appended, emitted}
+use Rattle.emitter.specs.Run.{emptyRun, appended}
+use Rattle.emit.specs.Emit.{emitted}
 use Rattle.listing.specs.Entries.{entries, listing}
 use Rattle.lister.specs.declared.Listed.the-variants as N
 use Rattle.lister.specs.Listing.{listingOf, listed, outcome, sliceAfter}

@@ -13,8 +13,8 @@ use lib.Seq.{getD-set-same, getD-set-other}
 use Rattle.x86.specs.declared.Instruction.{Instruction}
 use Rattle.x86.specs.declared.Read.{Read}
 use Rattle.x86.specs.Reading.{reads}
-use Rattle.emit.specs.declared.ByteRun.{ByteRun}
-use Rattle.emit.specs.Emit.{emptyRun, appended}
+use Rattle.emitter.specs.declared.ByteRun.{ByteRun}
+use Rattle.emitter.specs.Run.{emptyRun, appended}
 use Rattle.listing.specs.Candidates.{candidate}
 use Rattle.listing.specs.Entries.{entry, spelled, key, isWhole, readsAs, candidateKey}
 use Rattle.listing.proofs.Short.{candidate-short}

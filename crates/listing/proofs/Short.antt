@@ -22,7 +22,7 @@ use Rattle.listing.specs.declared.Tail.{Tail}
 use Rattle.listing.specs.declared.Tail.the-variants as L
 use Rattle.listing.specs.declared.Start.{Start}
 use Rattle.listing.specs.Operands.{aRegister, aSegment, inMemory, anImmediate, aNear, aFar, outlineOf, prefixOf, displacementOf, valueOf, farSegmentOf}
-use Rattle.listing.specs.Starts.{start, bare, sized, immediate, plus, withRm, arithmeticImmediate, arithmetic, unary, incDec, moveImmediate, moveFrom, moveInto, move, exchange, stack, load, shift, call, jump, single, port, startIn, startOf}
+use Rattle.listing.specs.Starts.{bare, sized, immediate, plus, withRm, arithmeticImmediate, arithmetic, unary, incDec, moveImmediate, moveFrom, moveInto, move, exchange, stack, load, shift, call, jump, single, port, startIn, startOf}
 use Rattle.listing.specs.Candidates.{byteOf, displacementBytes, secondBytes, tailBytes, stringOf, candidate}
 
 -- the most bytes that a second byte has with its displacement

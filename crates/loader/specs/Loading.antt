@@ -1,7 +1,7 @@
 -- What loading a show file answers, and what it leaves in the image (document 01, 'Show file' and the loader's questions).
 -- Definitions only.
 use Prim.Native.Nat.{ℕ, zero, suc, _+_, _%_}
-use mathlib.Core.Bool.{Bool, true, false}
+use mathlib.Core.Bool.{Bool}
 use mathlib.Core.List.{List, [], _++_}
 use lib.Dec.{ltb, leb}
 use lib.ListN.{length, drop}

@@ -1,6 +1,5 @@
 -- What the require functions of 000 answer: the value in its type, or the refusal with the value and the type's limits.
 -- Definitions only.
-use mathlib.Core.Bool.{Bool}
 use lib.IntN.{ℤ, pos, negsuc}
 use Rattle.mrc_compiler.specs.declared.ast.Span.{Span}
 use Rattle.mrc_compiler.specs.declared.encoder.EncodeError.{EncodeError}

@@ -1,10 +1,10 @@
 -- Laws of codes, and of a u32 read as an i32.
 -- Assumes nothing.
-use mathlib.Core.Path.{_≡_, refl, sym, ap, _∙_}
+use mathlib.Core.Path.{_≡_, refl, sym, ap}
 use mathlib.Core.List.{List}
 use Prim.Native.Nat.{ℕ, zero, suc, _-_, _≤_, _<_}
 use native.Mathlib.Omega.{arith}
-use lib.IntN.{ℤ, pos, negsuc, _-ℤ_}
+use lib.IntN.{pos, negsuc, _-ℤ_}
 use lib.ListN.{length, getD, List·getD-eq-default}
 use mir.Syntax.{w32}
 use mir.Val.{SFits, toZ, ofZ}
@@ -12,13 +12,9 @@ use mir.ValLaws.{toZ-ofZ, toZ-pos}
 use borrow.Author.Tests.{lt-ltb, le-ltb}
 use Rattle.values.specs.Distances.{asI32}
 
--- ---- codes: n is the byte m that was read
-pub coded : {A : Type 0} (codes : List A) (d : A) {n m : ℕ} → n ≡ m → getD codes n d ≡ getD codes m d
-coded codes d e = ap (λ (k : ℕ). getD codes k d) e
-
 -- a code past the list counts as the first
-pub past : {A : Type 0} (codes : List A) (d : A) {n m : ℕ} → n ≡ m → length codes ≤ n → d ≡ getD codes m d
-past codes d e h = sym (List·getD-eq-default codes d h) ∙ coded codes d e
+pub past : {A : Type 0} (codes : List A) (d : A) (n : ℕ) → length codes ≤ n → d ≡ getD codes n d
+past codes d n h = sym (List·getD-eq-default codes d h)
 
 -- ---- as_i32
 minus : (k : ℕ) → negsuc 0 -ℤ pos k ≡ negsuc k

@@ -1,8 +1,13 @@
 // A record of a show file becomes an instruction (document 01, 'Show file').
 ghost use mathlib.Core.Path.{_≡_};
-ghost use Prim.Native.Nat.{_+_, _≤_, _<_};
+ghost use Prim.Native.Nat.{_+_, _≤_};
+ghost use lib.ListN.{length, getD};
+ghost use Rattle.mrc_compiler.specs.declared.operations.Operation.the-variants as Op;
+ghost use Rattle.mrc_compiler.specs.declared.encoder.OperandKind.the-variants as K;
+ghost use Rattle.mrc_compiler.specs.declared.encoder.OperandSize.the-variants as S;
+ghost use Rattle.mrc_compiler.specs.declared.encoder.JumpKind.the-variants as J;
 ghost use Rattle.values.specs.Distances.{asI32};
-ghost use Rattle.records.specs.Record.{secondPlace, recordLength, byteAt, u32Of, u32At, i32At, spanAt, operationAt, kindAt, sizeAt, jumpKindAt, operandAt, instructionAt, operandKnown, codesKnown};
+ghost use Rattle.records.specs.Record.{operations, kinds, sizes, jumpKinds, operandLength, recordLength, byteAt, u32Of, u32At, i32At, spanAt, operandAt, instructionAt, operandKnown, codesKnown};
 use mrc_compiler::ast::Span;
 use mrc_compiler::encoder::InstructionData;
 use mrc_compiler::encoder::JumpKind;
@@ -164,21 +169,12 @@ fn u32_of(a: u8, b: u8, c: u8, d: u8) -> u32
     (a as u32) + 256 * ((b as u32) + 256 * ((c as u32) + 256 * (d as u32)))
 }
 
-// The u32 at a place. Inside the slice one comparison serves its four bytes.
+// The u32 at a place.
 fn u32_at(bytes: &[u8], at: usize) -> u32
-    requires { ⌜ at < recordLength ⌝ }
+    requires { ⌜ at + 4 ≤ length (now bytes) ⌝ }
     ensures { λ r. ⌜ r ≡ u32At (now (bytes .entry)) at ⌝ }
 {
-    if at + 4 <= bytes.len() {
-        u32_of(bytes[at], bytes[at + 1], bytes[at + 2], bytes[at + 3])
-    } else {
-        u32_of(
-            byte_at(bytes, at),
-            byte_at(bytes, at + 1),
-            byte_at(bytes, at + 2),
-            byte_at(bytes, at + 3),
-        )
-    }
+    u32_of(bytes[at], bytes[at + 1], bytes[at + 2], bytes[at + 3])
 }
 
 // The i32 with the same 32 bits.
@@ -194,7 +190,7 @@ fn as_i32(n: u32) -> i32
 
 // The i32 at a place.
 fn i32_at(bytes: &[u8], at: usize) -> i32
-    requires { ⌜ at < recordLength ⌝ }
+    requires { ⌜ at + 4 ≤ length (now bytes) ⌝ }
     ensures { λ r. ⌜ r ≡ i32At (now (bytes .entry)) at ⌝ }
 {
     as_i32(u32_at(bytes, at))
@@ -202,7 +198,7 @@ fn i32_at(bytes: &[u8], at: usize) -> i32
 
 // The span at a place: its start, then its end.
 fn span_at(bytes: &[u8], at: usize) -> Span
-    requires { ⌜ at + 4 < recordLength ⌝ }
+    requires { ⌜ at + 8 ≤ length (now bytes) ⌝ }
     ensures { λ r. ⌜ r ≡ spanAt (now (bytes .entry)) at ⌝ }
 {
     Span {
@@ -211,11 +207,11 @@ fn span_at(bytes: &[u8], at: usize) -> Span
     }
 }
 
-// The operation whose code stands at a place. An unknown code counts as the code 0.
-fn operation_at(bytes: &[u8], at: usize) -> Operation
-    ensures { λ r. ⌜ r ≡ operationAt (now (bytes .entry)) at ⌝ }
+// The operation of a code. An unknown code counts as the code 0.
+fn operation_of(code: u8) -> Operation
+    ensures { λ r. ⌜ r ≡ getD operations code Op.MOV ⌝ }
 {
-    let n = byte_at(bytes, at) as usize;
+    let n = code as usize;
     if n < 99 {
         OPERATIONS[n]
     } else {
@@ -223,11 +219,11 @@ fn operation_at(bytes: &[u8], at: usize) -> Operation
     }
 }
 
-// The kind whose code stands at a place. An unknown code counts as the code 0.
-fn kind_at(bytes: &[u8], at: usize) -> OperandKind
-    ensures { λ r. ⌜ r ≡ kindAt (now (bytes .entry)) at ⌝ }
+// The kind of a code. An unknown code counts as the code 0.
+fn kind_of(code: u8) -> OperandKind
+    ensures { λ r. ⌜ r ≡ getD kinds code K.Imm ⌝ }
 {
-    match byte_at(bytes, at) {
+    match code {
         0 => OperandKind::Imm,
         1 => OperandKind::Reg,
         2 => OperandKind::Seg,
@@ -236,11 +232,11 @@ fn kind_at(bytes: &[u8], at: usize) -> OperandKind
     }
 }
 
-// The size whose code stands at a place. An unknown code counts as the code 0.
-fn size_at(bytes: &[u8], at: usize) -> OperandSize
-    ensures { λ r. ⌜ r ≡ sizeAt (now (bytes .entry)) at ⌝ }
+// The size of a code. An unknown code counts as the code 0.
+fn size_of(code: u8) -> OperandSize
+    ensures { λ r. ⌜ r ≡ getD sizes code S.Unspecified ⌝ }
 {
-    match byte_at(bytes, at) {
+    match code {
         0 => OperandSize::Unspecified,
         1 => OperandSize::Byte,
         2 => OperandSize::Word,
@@ -248,11 +244,11 @@ fn size_at(bytes: &[u8], at: usize) -> OperandSize
     }
 }
 
-// The jump kind whose code stands at a place. An unknown code counts as the code 0.
-fn jump_kind_at(bytes: &[u8], at: usize) -> JumpKind
-    ensures { λ r. ⌜ r ≡ jumpKindAt (now (bytes .entry)) at ⌝ }
+// The jump kind of a code. An unknown code counts as the code 0.
+fn jump_kind_of(code: u8) -> JumpKind
+    ensures { λ r. ⌜ r ≡ getD jumpKinds code J.None ⌝ }
 {
-    match byte_at(bytes, at) {
+    match code {
         0 => JumpKind::None,
         1 => JumpKind::Far,
         2 => JumpKind::Near,
@@ -263,32 +259,33 @@ fn jump_kind_at(bytes: &[u8], at: usize) -> JumpKind
 
 // The operand whose first byte stands at a place.
 fn operand_at(bytes: &[u8], at: usize) -> OperandData
-    requires { ⌜ at ≤ secondPlace ⌝ }
+    requires { ⌜ at + operandLength ≤ length (now bytes) ⌝ }
     ensures { λ r. ⌜ r ≡ operandAt (now (bytes .entry)) at ⌝ }
 {
     OperandData {
         span: span_at(bytes, at + OPERAND_SPAN),
-        size: size_at(bytes, at + SIZE),
-        kind: kind_at(bytes, at + KIND),
-        segment_prefix: byte_at(bytes, at + PREFIX),
+        size: size_of(bytes[at + SIZE]),
+        kind: kind_of(bytes[at + KIND]),
+        segment_prefix: bytes[at + PREFIX],
         imm: i32_at(bytes, at + IMM),
         displacement: i32_at(bytes, at + DISPLACEMENT),
-        displacement_size: size_at(bytes, at + DISPLACEMENT_SIZE),
-        jmp_kind: jump_kind_at(bytes, at + JUMP_KIND),
-        mode: byte_at(bytes, at + MODE),
-        rm: byte_at(bytes, at + RM),
+        displacement_size: size_of(bytes[at + DISPLACEMENT_SIZE]),
+        jmp_kind: jump_kind_of(bytes[at + JUMP_KIND]),
+        mode: bytes[at + MODE],
+        rm: bytes[at + RM],
     }
 }
 
 // The instruction of a record whose codes are known. An enum that says whether they are cannot hold the operands' array: `codes_known` says it.
 pub fn instruction_at(bytes: &[u8]) -> InstructionData
+    requires { ⌜ length (now bytes) ≡ recordLength ⌝ }
     ensures { λ r. ⌜ r ≡ instructionAt (now (bytes .entry)) ⌝ }
 {
     let first = operand_at(bytes, FIRST);
     let second = operand_at(bytes, SECOND);
     InstructionData {
-        operation: operation_at(bytes, OPERATION),
-        num_opers: byte_at(bytes, COUNT),
+        operation: operation_of(bytes[OPERATION]),
+        num_opers: bytes[COUNT],
         opers: [first, second],
         opers_span: span_at(bytes, SPAN),
     }
@@ -296,26 +293,27 @@ pub fn instruction_at(bytes: &[u8]) -> InstructionData
 
 // Are the codes of the operand at a place known?
 fn operand_known(bytes: &[u8], at: usize) -> bool
-    requires { ⌜ at ≤ secondPlace ⌝ }
+    requires { ⌜ at + operandLength ≤ length (now bytes) ⌝ }
     ensures { λ r. ⌜ r ≡ operandKnown (now (bytes .entry)) at ⌝ }
 {
-    if 4 <= byte_at(bytes, at + KIND) {
+    if 4 <= bytes[at + KIND] {
         return false;
     }
-    if 3 <= byte_at(bytes, at + SIZE) {
+    if 3 <= bytes[at + SIZE] {
         return false;
     }
-    if 3 <= byte_at(bytes, at + DISPLACEMENT_SIZE) {
+    if 3 <= bytes[at + DISPLACEMENT_SIZE] {
         return false;
     }
-    byte_at(bytes, at + JUMP_KIND) < 4
+    bytes[at + JUMP_KIND] < 4
 }
 
 // Are all codes of a record known, those of an operand that is not used too? No: refusal 15.
 pub fn codes_known(bytes: &[u8]) -> bool
+    requires { ⌜ length (now bytes) ≡ recordLength ⌝ }
     ensures { λ r. ⌜ r ≡ codesKnown (now (bytes .entry)) ⌝ }
 {
-    if 99 <= byte_at(bytes, OPERATION) {
+    if 99 <= bytes[OPERATION] {
         return false;
     }
     if operand_known(bytes, FIRST) {

@@ -1,22 +1,22 @@
 -- The laws that the text rests on: a line filled byte by byte, how long lines are, and the lines of the records behind each other.
 -- Assumes nothing.
-use mathlib.Core.Path.{_≡_, refl, sym, ap, _∙_}
+use mathlib.Core.Path.{_≡_, refl, sym, _∙_}
 use mathlib.Core.Bool.{Bool, true, false}
 use mathlib.Core.List.{List, [], _∷_, _++_, append-assoc, append-nil}
 use Prim.Native.Nat.{ℕ, zero, suc, _+_, _*_, _-_, _/_, _%_, _<_, _≤_}
 use native.Mathlib.Numerals.{add-one}
 use native.Mathlib.Omega.{arith}
-use lib.Dec.{ltb, leb}
-use lib.ListN.{length, take, drop, set, getD, length-set, length-append, length-drop}
+use lib.Dec.{leb}
+use lib.ListN.{length, take, drop, getD, length-set, length-append, length-drop}
 use lib.Seq.{take-suc, take-suc-set}
 use borrow.Author.Tests.{lt-ltb}
 use borrow.Rule.Slice.PartMut.{putMid}
 use Rattle.mrc_compiler.specs.Choose.{pick}
 use Rattle.answers.specs.Answer.{Answer, bytes, refused, answer}
-use Rattle.emit.specs.declared.ByteRun.{ByteRun}
 use Rattle.emit.specs.declared.Emitted.{Emitted}
-use Rattle.emit.specs.Emit.{emptyRun, emitted}
-use Rattle.emit.specs.Emit as Emit
+use Rattle.emitter.specs.Run.{emptyRun}
+use Rattle.emit.specs.Emit.{emitted}
+use Rattle.emitter.specs.Run as Run
 use Rattle.loader.specs.declared.Header.{Header}
 use Rattle.loader.specs.declared.LoadError.{LoadError}
 use Rattle.loader.specs.declared.LoadError.the-variants as E
@@ -192,7 +192,7 @@ pub refused-holds : (line : Line) (x : LoadError) → line ≡ appended emptyLin
 refused-holds line x e = line-holds line (refusedLine x) (refused-length x) e
 
 -- ---- the run of an answer
-run-holds : (bs : List ℕ) → length bs ≤ 7 → (take (Emit.appended emptyRun bs .len) (Emit.appended emptyRun bs .bytes) ≡ bs) × (Emit.appended emptyRun bs .len ≡ length bs) × (length (Emit.appended emptyRun bs .bytes) ≡ 7)
+run-holds : (bs : List ℕ) → length bs ≤ 7 → (take (Run.appended emptyRun bs .len) (Run.appended emptyRun bs .bytes) ≡ bs) × (Run.appended emptyRun bs .len ≡ length bs) × (length (Run.appended emptyRun bs .bytes) ≡ 7)
 run-holds [] h = (refl, refl, refl)
 run-holds (a ∷ []) h = (refl, refl, refl)
 run-holds (a ∷ b ∷ []) h = (refl, refl, refl)
@@ -203,7 +203,7 @@ run-holds (a ∷ b ∷ c ∷ d ∷ e ∷ f ∷ []) h = (refl, refl, refl)
 run-holds (a ∷ b ∷ c ∷ d ∷ e ∷ f ∷ g ∷ []) h = (refl, refl, refl)
 run-holds (a ∷ b ∷ c ∷ d ∷ e ∷ f ∷ g ∷ x ∷ bs) h = absurd (omega arith)
 
-run-of-bytes : (d : Emitted) (a : Answer) (cs : List ℕ) → d ≡ emitted emptyRun a → a ≡ bytes cs → d .run ≡ Emit.appended emptyRun cs
+run-of-bytes : (d : Emitted) (a : Answer) (cs : List ℕ) → d ≡ emitted emptyRun a → a ≡ bytes cs → d .run ≡ Run.appended emptyRun cs
 run-of-bytes d a cs hd e = rw (hd, e) refl
 
 bytes-of : (a : Answer) (cs : List ℕ) → a ≡ bytes cs → bytesOf a ≡ cs
@@ -250,7 +250,7 @@ module _ (file : List ℕ) (origin k at to : ℕ) (out₀ out : List ℕ) (s : L
   short : length cs ≤ 7
   short = short-of (its file origin k at (s .upto)) cs (short-by (insnAt file k) ((origin + at) % 65536) (omega arith) (its file origin k at (s .upto)) refl) has-bytes
 
-  run-is : d .run ≡ Emit.appended emptyRun cs
+  run-is : d .run ≡ Run.appended emptyRun cs
   run-is = run-of-bytes d (its file origin k at (s .upto)) cs hd has-bytes
 
   run-length : d .run .len ≡ length cs

@@ -1,9 +1,9 @@
 -- What a show that loads into the image of 7,000 bytes prints, and that no file is refused with 9.
 -- Assumes nothing.
-use mathlib.Core.Path.{_≡_, refl, sym, ap, _∙_}
+use mathlib.Core.Path.{_≡_, refl, _∙_}
 use mathlib.Core.Bool.{Bool, true, false}
-use mathlib.Core.List.{List, [], _∷_, _++_}
-use Prim.Native.Nat.{ℕ, zero, suc, _+_, _*_, _-_, _%_, _<_, _≤_}
+use mathlib.Core.List.{List, _++_}
+use Prim.Native.Nat.{ℕ, zero, suc, _+_, _*_, _-_, _≤_}
 use native.Mathlib.Omega.{arith}
 use lib.Dec.{eqb, ltb, leb}
 use lib.IntN.{ℤ, pos, negsuc}
@@ -11,7 +11,6 @@ use lib.ListN.{length, take, drop, length-append, length-drop}
 use borrow.Author.Tests.{le-leb, leb-true}
 use borrow.Rule.Slice.PartMut.{putMid}
 use Rattle.mrc_compiler.specs.declared.ast.Span.{Span}
-use Rattle.mrc_compiler.specs.declared.encoder.EncodeError.{EncodeError}
 use Rattle.mrc_compiler.specs.declared.encoder.EncodeError.the-variants as N
 use Rattle.mrc_compiler.specs.declared.encoder.InstructionData.{InstructionData}
 use Rattle.mrc_compiler.specs.declared.encoder.OperandData.{OperandData}
@@ -32,7 +31,7 @@ use Rattle.answers.specs.Layout.{wordOf}
 use Rattle.answers.specs.Questions.{errorOf}
 use Rattle.answers.specs.Answer.{Answer, bytes, refused, answer}
 use Rattle.plans.specs.Plans.{planOf}
-use Rattle.emit.specs.Emit.{ranged, immediateByte, immediateWord, relativeByte, relativeWord, joined, operand, codeAnswer, codesAnswer}
+use Rattle.emit.specs.Emit.{ranged, immediateByte, immediateWord, relativeByte, relativeWord, joined, operand, codeAnswer}
 use Rattle.encoder.specs.Coded.{planAnswer, coded}
 use Rattle.encoder.proofs.Tied.{tied}
 use Rattle.loader.specs.declared.Header.{Header}

@@ -10,7 +10,7 @@ ghost use Rattle.loader.specs.Steps.{isAll};
 ghost use Rattle.show_text.specs.Text.{hexDigit, hexByte, hexWord, hexBytes, digitFrom, decimal, firstLine, lineOf, recordOf, refusedLine, linesOf, imageLength, mostLine, mostText, text, listed, sliceAfter};
 ghost use Rattle.show_text.specs.Steps.{emptyLine, pushed, appended, accepted};
 ghost use Rattle.loader.specs.declared.Opened.the-variants.{Show as Opened·Show};
-use emit::ByteRun;
+use emitter::ByteRun;
 use loader::Header;
 use loader::LoadError;
 use loader::Measured;

@@ -1,11 +1,8 @@
--- Tests of numbers as rules for search, the table of displacement lengths, the cases of XCHG.
+-- Tests of numbers as rules for search, and the cases of XCHG.
 -- Assumes nothing.
-use mathlib.Core.Path.{_≡_, refl}
-use mathlib.Core.Bool.{Bool, true, false}
-use mathlib.Core.List.{List, [], _∷_}
-use Prim.Native.Nat.{ℕ, _+_, _*_, _<_}
-use lib.Dec.{T, eqb, eqb→eq}
-use lib.ListN.{getD}
+use mathlib.Core.Path.{_≡_}
+use mathlib.Core.Bool.{true}
+use Prim.Native.Nat.{ℕ}
 use borrow.Author.Tests.{eq-eqb, ne-eqb, lt-ltb, le-ltb, le-leb, lt-leb}
 use Rattle.mrc_compiler.specs.declared.encoder.OperandSize.{OperandSize}
 use Rattle.mrc_compiler.specs.declared.operations.Operation.{Operation}
@@ -14,32 +11,10 @@ use Rattle.mrc_compiler.specs.Operations.{sameOperation}
 use Rattle.x86.specs.declared.Operand.{Operand}
 use Rattle.x86.specs.declared.Operand.the-variants as O
 use Rattle.x86.specs.Instructions.{instruction, canonical}
-use Rattle.x86.specs.Reading.{displacementLength}
-use Rattle.x86.proofs.Tests.{upTo, upTo-at}
 use Rattle.slots.specs.declared.Number.the-variants as N
 use Rattle.slots.specs.Slots.{registerIn}
 
 pub ruleset tests = (eq-eqb, ne-eqb, lt-ltb, le-ltb, le-leb, lt-leb)
-
--- the constant of the code: mode by mode
-abbrev pub lengths : List ℕ
-lengths =
-    0 ∷ 0 ∷ 0 ∷ 0 ∷ 0 ∷ 0 ∷ 2 ∷ 0
-    ∷ 1 ∷ 1 ∷ 1 ∷ 1 ∷ 1 ∷ 1 ∷ 1 ∷ 1
-    ∷ 2 ∷ 2 ∷ 2 ∷ 2 ∷ 2 ∷ 2 ∷ 2 ∷ 2
-    ∷ 0 ∷ 0 ∷ 0 ∷ 0 ∷ 0 ∷ 0 ∷ 0 ∷ 0 ∷ []
-
-agrees : ℕ → ℕ → Bool
-agrees mode rm = eqb (getD lengths (mode * 8 + rm) 0) (displacementLength mode rm)
-
-all-agree : T (upTo 4 (λ mode. upTo 8 (agrees mode)))
-unfolding agrees
-all-agree = tt
-
--- the table agrees with the manual's rule
-pub length-at : (mode rm : ℕ) → mode < 4 → rm < 8 → getD lengths (mode * 8 + rm) 0 ≡ displacementLength mode rm
-unfolding agrees
-length-at mode rm m r = eqb→eq _ _ (upTo-at 8 (agrees mode) (upTo-at 4 (λ mode. upTo 8 (agrees mode)) all-agree mode m) rm r)
 
 -- ---- XCHG, by which of its operands are registers
 pub is-register : (a : Operand) (m : ℕ) → registerIn a ≡ N.Is m → a ≡ O.Register m

@@ -9,7 +9,7 @@ ghost use Rattle.mrc_compiler.specs.Operations.{sameOperation};
 ghost use Rattle.mrc_compiler.specs.declared.operations.Operation.the-variants.{XCHG};
 ghost use Rattle.x86.specs.declared.Operand.the-variants.{Register, Near};
 ghost use Rattle.x86.specs.Instructions.{defaultSegment, inEffect, base, canonical};
-ghost use Rattle.x86.specs.Reading.{displacementLength, about, addressLength, onlyFits, inMemory, somewhere, wordAt, signExtended, displacementAt, memoryAt, rmAt, at};
+ghost use Rattle.x86.specs.Reading.{about, addressLength, onlyFits, inMemory, somewhere, wordAt, signExtended, displacementAt, memoryAt, rmAt, at};
 ghost use Rattle.slots.specs.Slots.{slotOf, placeOf, onlyOf, registerIn};
 use mrc_compiler::ast::Segment;
 use mrc_compiler::encoder::OperandSize;
@@ -218,58 +218,13 @@ pub fn slot_only(slot: Slot) -> Only
     }
 }
 
-// The bytes of displacement for each mode (eight entries a line) and r/m.
-const DISPLACEMENT_LENGTHS: [u8; 32] = [
-    0,
-    0,
-    0,
-    0,
-    0,
-    0,
-    2,
-    0, //
-    1,
-    1,
-    1,
-    1,
-    1,
-    1,
-    1,
-    1, //
-    2,
-    2,
-    2,
-    2,
-    2,
-    2,
-    2,
-    2, //
-    0,
-    0,
-    0,
-    0,
-    0,
-    0,
-    0,
-    0,
-];
-
-// The bytes of displacement that a ModRM byte's mode and r/m ask for.
-pub fn displacement_length(mode: u8, rm: u8) -> u8
-    requires { ⌜ (mode < 4) × (rm < 8) ⌝ }
-    ensures { λ r. ⌜ r ≡ displacementLength mode rm ⌝ }
-{
-    let at = mode as usize * 8 + rm as usize;
-    DISPLACEMENT_LENGTHS[at]
-}
-
 // The bytes of address or displacement that a place takes, with second byte x.
 pub fn address_length(place: Place, x: u8) -> u8
     ensures { λ r. ⌜ r ≡ addressLength (placeOf place) x ⌝ }
 {
     match place {
         Place::Nowhere => 0,
-        Place::ByModRm => displacement_length(x / 64, x % 8),
+        Place::ByModRm => x86::displacement_length(x / 64, x % 8),
         Place::ByAddress => 2,
         Place::ByBxAl => 0,
     }
@@ -423,7 +378,7 @@ fn memory_at(prefix: u8, x: u8, t: &[u8]) -> Operand
 {
     let mode = x / 64;
     let rm = x % 8;
-    let n = displacement_length(mode, rm);
+    let n = x86::displacement_length(mode, rm);
     Operand::Memory(
         base_of(mode, rm),
         displacement_at(n, t),

@@ -1,7 +1,6 @@
 -- Distances of branches (document 01, 'Code list', last paragraph, and the values of refusal 6).
 -- Definitions only.
 use Prim.Native.Nat.{ℕ, _+_, _-_}
-use mathlib.Core.Bool.{Bool}
 use lib.Dec.{ltb}
 use lib.IntN.{ℤ, pos, negsuc, _-ℤ_}
 use Rattle.mrc_compiler.specs.Choose.{pick}

@@ -1,4 +1,4 @@
-// What a value leaves in a byte or a word, and the distances of branches: the casts and subtractions that 000 and 003 write in place.
+// The limits of a value, what it leaves in a byte or a word, and the distances of branches: the casts and subtractions that 000 and 003 write in place.
 ghost use mathlib.Core.Path.{_≡_};
 ghost use mathlib.Core.Bool.{true};
 ghost use Prim.Native.Nat.{_<_};
@@ -6,6 +6,13 @@ ghost use lib.IntN.{pos, negsuc};
 ghost use lib.Signed.{mag, leZ};
 ghost use Rattle.mrc_compiler.specs.Values.{within, modZ};
 ghost use Rattle.values.specs.Distances.{distanceOf, wrapped, relativeOf};
+
+// Is a value in its limits?
+pub fn value_is_within(value: i32, low: i32, high: i32) -> bool
+    ensures { λ r. ⌜ r ≡ within low high value ⌝ }
+{
+    low <= value && value <= high
+}
 
 // `value as u8`: the value modulo 256.
 pub fn low_byte(value: i32) -> u8

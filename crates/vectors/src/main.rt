@@ -23,6 +23,9 @@ const COUNT: usize = 121;
 
 const ENTRIES: usize = 124;
 
+// Each of the report's last four bytes where it names no record of a file.
+const NO_RECORD: u8 = 0xFF;
+
 // What the lent slices hold before.
 const LENT: u8 = 0x55;
 
@@ -52,11 +55,11 @@ fn record_of(row: &[u8]) -> [u8; 56]
     record
 }
 
-// A report holds its numbers with the low byte first, a row with the high one.
-fn report_of(row: &[u8]) -> [u8; 24]
-    ensures { λ r. ⌜ 24 ≡ length r ⌝ }
+// A report holds its numbers with the low byte first, a row with the high one. Behind a row's numbers stands that no record of a file is named.
+fn report_of(row: &[u8]) -> [u8; 28]
+    ensures { λ r. ⌜ 28 ≡ length r ⌝ }
 {
-    let mut report = [0u8; 24];
+    let mut report = [NO_RECORD; 28];
     let mut i = 0;
     while i < 24 {
         report[i] = byte_at(row, REPORT + 9 * (i / 4) + 6 - 2 * (i % 4));
@@ -91,8 +94,8 @@ fn is_as_kept(row: &[u8]) -> bool {
     let record = record_of(row);
     let offset = byte_at(row, OFFSET) as u16 * 256 + byte_at(row, OFFSET + 2) as u16;
     let mut out = [LENT; 8];
-    let mut report = [LENT; 24];
-    let number = foreign::encode::encode_record(&record, offset, &mut out, &mut report);
+    let mut report = [LENT; 28];
+    let number = foreign::encode::fsq_encode(&record, offset, &mut out, &mut report);
     if number != byte_at(row, NUMBER) {
         return false;
     }
@@ -130,13 +133,16 @@ fn is_list_as_kept(row: &[u8]) -> bool {
     let record = record_of(row);
     let offset = byte_at(row, OFFSET) as u16 * 256 + byte_at(row, OFFSET + 2) as u16;
     let mut out = [LENT; 104];
-    let mut report = [LENT; 24];
-    let number = foreign::list::list_record(&record, offset, &mut out, &mut report);
+    let mut report = [LENT; 28];
+    let number = foreign::list::fsq_list(&record, offset, &mut out, &mut report);
     if number != byte_at(row, NUMBER) {
         return false;
     }
     let count = byte_at(row, COUNT);
     if report[0] != count {
+        return false;
+    }
+    if !check::same(&report[24..], &[NO_RECORD; 4]) {
         return false;
     }
     let kept = entries_of(row, count);

@@ -1,7 +1,6 @@
 // Question 1: is an operand well formed?
 ghost use mathlib.Core.Path.{_≡_};
 ghost use lib.Dec.{eqb};
-ghost use Rattle.mrc_compiler.specs.Values.{within};
 ghost use Rattle.x86.specs.Reading.{displacementLength};
 ghost use Prim.Native.Nat.{_<_};
 ghost use mathlib.Core.Bool.{true, false};
@@ -10,50 +9,6 @@ ghost use Rattle.answers.specs.WellFormed.{isPrefix, bytesOf, displacementIn, i
 use mrc_compiler::encoder::OperandData;
 use mrc_compiler::encoder::OperandKind;
 use mrc_compiler::encoder::OperandSize;
-
-// The bytes of displacement for each mode (eight entries a line) and r/m.
-const DISPLACEMENT_LENGTHS: [u8; 32] = [
-    0,
-    0,
-    0,
-    0,
-    0,
-    0,
-    2,
-    0, //
-    1,
-    1,
-    1,
-    1,
-    1,
-    1,
-    1,
-    1, //
-    2,
-    2,
-    2,
-    2,
-    2,
-    2,
-    2,
-    2, //
-    0,
-    0,
-    0,
-    0,
-    0,
-    0,
-    0,
-    0,
-];
-
-fn displacement_length(mode: u8, rm: u8) -> u8
-    requires { ⌜ (mode < 4) × (rm < 8) ⌝ }
-    ensures { λ r. ⌜ r ≡ displacementLength mode rm ⌝ }
-{
-    let at = mode as usize * 8 + rm as usize;
-    DISPLACEMENT_LENGTHS[at]
-}
 
 fn bytes_of(size: OperandSize) -> u8
     ensures { λ r. ⌜ r ≡ bytesOf size ⌝ }
@@ -70,13 +25,7 @@ fn displacement_fits(size: OperandSize, mode: u8, rm: u8) -> bool
     requires { ⌜ (mode < 4) × (rm < 8) ⌝ }
     ensures { λ r. ⌜ r ≡ eqb (bytesOf size) (displacementLength mode rm) ⌝ }
 {
-    bytes_of(size) == displacement_length(mode, rm)
-}
-
-fn value_is_within(value: i32, low: i32, high: i32) -> bool
-    ensures { λ r. ⌜ r ≡ within low high value ⌝ }
-{
-    low <= value && value <= high
+    bytes_of(size) == x86::displacement_length(mode, rm)
 }
 
 // Is the displacement in the range of its size?
@@ -85,9 +34,9 @@ fn displacement_in(oper: OperandData) -> bool
 {
     let size = oper.displacement_size;
     match size {
-        OperandSize::Unspecified => value_is_within(oper.displacement, 0, 0),
-        OperandSize::Byte => value_is_within(oper.displacement, -128, 127),
-        OperandSize::Word => value_is_within(oper.displacement, -32768, 65535),
+        OperandSize::Unspecified => values::value_is_within(oper.displacement, 0, 0),
+        OperandSize::Byte => values::value_is_within(oper.displacement, -128, 127),
+        OperandSize::Word => values::value_is_within(oper.displacement, -32768, 65535),
     }
 }
 

@@ -1,4 +1,7 @@
 // An instruction as it counts for 'same instruction' (document 01, 'Read instruction'), and what a reading gives.
+ghost use mathlib.Core.Path.{_≡_};
+ghost use Prim.Native.Nat.{_<_};
+ghost use Rattle.x86.specs.Reading.{displacementLength};
 use mrc_compiler::ast::Segment;
 use mrc_compiler::encoder::OperandSize;
 use mrc_compiler::operations::Operation;
@@ -49,4 +52,49 @@ pub enum Read {
 
     // Refusal 11: an instruction that is not complete yet.
     More,
+}
+
+// The bytes of displacement for each mode (eight entries a line) and r/m.
+const DISPLACEMENT_LENGTHS: [u8; 32] = [
+    0,
+    0,
+    0,
+    0,
+    0,
+    0,
+    2,
+    0, //
+    1,
+    1,
+    1,
+    1,
+    1,
+    1,
+    1,
+    1, //
+    2,
+    2,
+    2,
+    2,
+    2,
+    2,
+    2,
+    2, //
+    0,
+    0,
+    0,
+    0,
+    0,
+    0,
+    0,
+    0,
+];
+
+// The bytes of displacement that a ModRM byte's mode and r/m ask for.
+pub fn displacement_length(mode: u8, rm: u8) -> u8
+    requires { ⌜ (mode < 4) × (rm < 8) ⌝ }
+    ensures { λ r. ⌜ r ≡ displacementLength mode rm ⌝ }
+{
+    let at = mode as usize * 8 + rm as usize;
+    DISPLACEMENT_LENGTHS[at]
 }

@@ -1,6 +1,6 @@
 use Rattle.plans.specs.Plans.{planBy}
 use Rattle.plans.specs.Blocks.{jumpPlan}
-use Rattle.answers.specs.Records.{dst, src}
+use Rattle.answers.specs.Records.{dst}
 use borrow.Author.Needs.{needs}
 use mathlib.Core.Path.{sym, _∙_}
 use mir.Syntax.{w32}

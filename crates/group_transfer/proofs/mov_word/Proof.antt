@@ -1,7 +1,7 @@
 use Rattle.plans.proofs.Laws.{both-no}
 use lib.Dec.{eqb}
 use Rattle.mrc_compiler.specs.Builders.{isDirectAddress}
-use Rattle.answers.specs.Records.{dst, src}
+use Rattle.answers.specs.Records.{dst}
 use borrow.Author.Needs.{needs}
 use mathlib.Core.Path.{sym, _∙_}
 use Rattle.group_transfer.proofs.mov_word.Statement.{statement}

@@ -1,8 +1,6 @@
 use borrow.Author.Tests.{eq-eqb, ne-eqb}
 use Rattle.plans.proofs.is_bx.Statement.{statement}
 use Rattle.plans.proofs.is_bx.Tie as tie
-use Rattle.plans.proofs.is_bx.Reads as reads
-use Rattle.plans.proofs.is_bx.Lts as lts
 
 -- src/lib.rt:106:9
 returns : tie.Need-returns

@@ -1,8 +1,6 @@
 use borrow.Author.Needs.{needs}
 use Rattle.plans.proofs.is_cl.Statement.{statement}
 use Rattle.plans.proofs.is_cl.Tie as tie
-use Rattle.plans.proofs.is_cl.Reads as reads
-use Rattle.plans.proofs.is_cl.Lts as lts
 
 -- src/lib.rt:85:37
 enum-told : tie.Need-enum-told

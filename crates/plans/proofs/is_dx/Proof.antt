@@ -1,8 +1,6 @@
 use borrow.Author.Needs.{needs}
 use Rattle.plans.proofs.is_dx.Statement.{statement}
 use Rattle.plans.proofs.is_dx.Tie as tie
-use Rattle.plans.proofs.is_dx.Reads as reads
-use Rattle.plans.proofs.is_dx.Lts as lts
 
 -- src/lib.rt:95:37
 enum-told : tie.Need-enum-told

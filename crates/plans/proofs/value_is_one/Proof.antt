@@ -2,8 +2,6 @@ use mir.ValLaws.{toZ-ofZ}
 use mir.Syntax.{w32}
 use Rattle.plans.proofs.value_is_one.Statement.{statement}
 use Rattle.plans.proofs.value_is_one.Tie as tie
-use Rattle.plans.proofs.value_is_one.Reads as reads
-use Rattle.plans.proofs.value_is_one.Lts as lts
 
 -- src/lib.rt:112:1
 returns : tie.Need-returns

@@ -1,4 +1,3 @@
-use native.Mathlib.Omega.{arith}
 use mir.Syntax.{w32}
 use mir.Val.{SFits}
 use mir.ValLaws.{toZ-ofZ}
@@ -8,82 +7,91 @@ use Rattle.records.proofs.operand_at.Statement.{statement}
 use Rattle.records.proofs.operand_at.Tie as tie
 
 add-span-at : tie.Need-add-span-at
-add-span-at c = record { fits = omega arith }
+add-span-at c = search needs
 
 span-at-requires : tie.Need-span-at-requires
 span-at-requires c κs = search needs
 
-add-size-at : tie.Need-add-size-at
-add-size-at c = record { fits = omega arith }
+add-size-of : tie.Need-add-size-of
+add-size-of c = search needs
 
-size-at-requires : tie.Need-size-at-requires
-size-at-requires c κs = search needs
+shared-slice-read-size-of : tie.Need-shared-slice-read-size-of
+shared-slice-read-size-of c = search needs
 
-add-kind-at : tie.Need-add-kind-at
-add-kind-at c = record { fits = omega arith }
+size-of-requires : tie.Need-size-of-requires
+size-of-requires c κs = search needs
 
-kind-at-requires : tie.Need-kind-at-requires
-kind-at-requires c κs = search needs
+add-kind-of : tie.Need-add-kind-of
+add-kind-of c = search needs
 
-add-byte-at : tie.Need-add-byte-at
-add-byte-at c = record { fits = omega arith }
+shared-slice-read-kind-of : tie.Need-shared-slice-read-kind-of
+shared-slice-read-kind-of c = search needs
 
-byte-at-requires : tie.Need-byte-at-requires
-byte-at-requires c κs = search needs
+kind-of-requires : tie.Need-kind-of-requires
+kind-of-requires c κs = search needs
+
+add-t13 : tie.Need-add-t13
+add-t13 c = search needs
+
+shared-slice-read-t15 : tie.Need-shared-slice-read-t15
+shared-slice-read-t15 c = search needs
 
 add-i32-at : tie.Need-add-i32-at
-add-i32-at c = record { fits = omega arith }
+add-i32-at c = search needs
 
 i32-at-requires : tie.Need-i32-at-requires
 i32-at-requires c κs = search needs
 
 add-i32-at-2 : tie.Need-add-i32-at-2
-add-i32-at-2 c = record { fits = omega arith }
+add-i32-at-2 c = search needs
 
 i32-at-requires-2 : tie.Need-i32-at-requires-2
 i32-at-requires-2 c κs = search needs
 
-add-size-at-2 : tie.Need-add-size-at-2
-add-size-at-2 c = record { fits = omega arith }
+add-size-of-2 : tie.Need-add-size-of-2
+add-size-of-2 c = search needs
 
-size-at-requires-2 : tie.Need-size-at-requires-2
-size-at-requires-2 c κs = search needs
+shared-slice-read-size-of-2 : tie.Need-shared-slice-read-size-of-2
+shared-slice-read-size-of-2 c = search needs
 
-add-jump-kind-at : tie.Need-add-jump-kind-at
-add-jump-kind-at c = record { fits = omega arith }
+size-of-requires-2 : tie.Need-size-of-requires-2
+size-of-requires-2 c κs = search needs
 
-jump-kind-at-requires : tie.Need-jump-kind-at-requires
-jump-kind-at-requires c κs = search needs
+add-jump-kind-of : tie.Need-add-jump-kind-of
+add-jump-kind-of c = search needs
 
-add-byte-at-2 : tie.Need-add-byte-at-2
-add-byte-at-2 c = record { fits = omega arith }
+shared-slice-read-jump-kind-of : tie.Need-shared-slice-read-jump-kind-of
+shared-slice-read-jump-kind-of c = search needs
 
-byte-at-requires-2 : tie.Need-byte-at-requires-2
-byte-at-requires-2 c κs = search needs
+jump-kind-of-requires : tie.Need-jump-kind-of-requires
+jump-kind-of-requires c κs = search needs
 
-add-byte-at-3 : tie.Need-add-byte-at-3
-add-byte-at-3 c = record { fits = omega arith }
+add-t28 : tie.Need-add-t28
+add-t28 c = search needs
 
-byte-at-requires-3 : tie.Need-byte-at-requires-3
-byte-at-requires-3 c κs = search needs
+shared-slice-read-t30 : tie.Need-shared-slice-read-t30
+shared-slice-read-t30 c = search needs
+
+add-t31 : tie.Need-add-t31
+add-t31 c = search needs
+
+shared-slice-read-t33 : tie.Need-shared-slice-read-t33
+shared-slice-read-t33 c = search needs
 
 returns : tie.Need-returns
 unfolding operandAt
-returns c = let imm : SFits w32 (c .before .before .before .before .before .i32-at .result) = search needs in
-    let displacement : SFits w32 (c .before .before .before .before .i32-at2 .result) = search needs in
+returns c = let imm : SFits w32 (c .before .before .before .before .before .before .before .i32-at .result) = search needs in
+    let displacement : SFits w32 (c .before .before .before .before .before .before .i32-at2 .result) = search needs in
     rw (
-      toZ-ofZ w32 (c .before .before .before .before .before .i32-at .result) imm,
-      toZ-ofZ w32 (c .before .before .before .before .i32-at2 .result) displacement,
-      c .before .before .before .before .before .before .before .before .before .span-at .ensures,
-      c .before .before .before .before .before .before .before .before .size-at .ensures,
-      c .before .before .before .before .before .before .before .kind-at .ensures,
-      c .before .before .before .before .before .before .byte-at .ensures,
-      c .before .before .before .before .before .i32-at .ensures,
-      c .before .before .before .before .i32-at2 .ensures,
-      c .before .before .before .size-at2 .ensures,
-      c .before .before .jump-kind-at .ensures,
-      c .before .byte-at2 .ensures,
-      c .byte-at3 .ensures,
+      toZ-ofZ w32 (c .before .before .before .before .before .before .before .i32-at .result) imm,
+      toZ-ofZ w32 (c .before .before .before .before .before .before .i32-at2 .result) displacement,
+      c .before .before .before .before .before .before .before .before .before .before .before .before .before .span-at .ensures,
+      c .before .before .before .before .before .before .before .before .before .before .before .size-of .ensures,
+      c .before .before .before .before .before .before .before .before .before .kind-of .ensures,
+      c .before .before .before .before .before .before .before .i32-at .ensures,
+      c .before .before .before .before .before .before .i32-at2 .ensures,
+      c .before .before .before .before .size-of2 .ensures,
+      c .before .before .jump-kind-of .ensures,
     )
 
 pub operand-at-spec : {M : Type 1} → statement M
@@ -92,22 +100,26 @@ operand-at-spec =
     (tie.spec
     add-span-at
     span-at-requires
-    add-size-at
-    size-at-requires
-    add-kind-at
-    kind-at-requires
-    add-byte-at
-    byte-at-requires
+    add-size-of
+    shared-slice-read-size-of
+    size-of-requires
+    add-kind-of
+    shared-slice-read-kind-of
+    kind-of-requires
+    add-t13
+    shared-slice-read-t15
     add-i32-at
     i32-at-requires
     add-i32-at-2
     i32-at-requires-2
-    add-size-at-2
-    size-at-requires-2
-    add-jump-kind-at
-    jump-kind-at-requires
-    add-byte-at-2
-    byte-at-requires-2
-    add-byte-at-3
-    byte-at-requires-3
+    add-size-of-2
+    shared-slice-read-size-of-2
+    size-of-requires-2
+    add-jump-kind-of
+    shared-slice-read-jump-kind-of
+    jump-kind-of-requires
+    add-t28
+    shared-slice-read-t30
+    add-t31
+    shared-slice-read-t33
     returns)

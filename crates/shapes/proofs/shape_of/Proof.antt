@@ -2,7 +2,6 @@ use mathlib.Core.Path.{sym}
 use lib.ListN.{List·getD-eq-default}
 use Rattle.shapes.specs.Shapes.{shapes}
 use Rattle.shapes.proofs.Laws.{past}
-use borrow.Author.Needs.{needs}
 use Rattle.shapes.proofs.shape_of.Statement.{statement}
 use Rattle.shapes.proofs.shape_of.Tie as tie
 

@@ -1,5 +1,4 @@
 use Rattle.slots.proofs.Laws.{tests}
-use borrow.Author.Needs.{needs}
 use Rattle.slots.proofs.base_of.Statement.{statement}
 use Rattle.slots.proofs.base_of.Tie as tie
 

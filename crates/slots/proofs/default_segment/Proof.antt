@@ -1,5 +1,4 @@
 use Rattle.slots.proofs.Laws.{tests}
-use borrow.Author.Needs.{needs}
 use Rattle.slots.proofs.default_segment.Statement.{statement}
 use Rattle.slots.proofs.default_segment.Tie as tie
 

@@ -1,5 +1,4 @@
 use Rattle.slots.proofs.Laws.{tests}
-use borrow.Author.Needs.{needs}
 use Rattle.slots.proofs.in_effect.Statement.{statement}
 use Rattle.slots.proofs.in_effect.Tie as tie
 

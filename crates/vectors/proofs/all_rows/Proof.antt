@@ -1,6 +1,3 @@
-use mathlib.Core.Path.{_≡_}
-use Prim.Native.Nat.{_≤_, _-_}
-use lib.ListN.{length}
 use borrow.Author.Needs.{needs}
 use Rattle.vectors.proofs.all_rows.Statement.{statement}
 use Rattle.vectors.proofs.all_rows.Tie as tie

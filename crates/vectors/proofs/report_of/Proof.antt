@@ -6,7 +6,7 @@ use Rattle.vectors.proofs.report_of.Statement.{statement}
 use Rattle.vectors.proofs.report_of.Tie as tie
 
 abbrev Inv-loop : tie.InvT-loop
-Inv-loop row report₀ i₀ report i = (i ≤ 24) × (length report ≡ 24)
+Inv-loop row report₀ i₀ report i = (i ≤ 24) × (length report ≡ 28)
 
 abbrev μ-loop : tie.MeasureT-loop
 μ-loop row report₀ i₀ report i = 24 - i

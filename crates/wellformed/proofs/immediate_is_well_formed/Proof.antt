@@ -1,4 +1,4 @@
-use borrow.Author.Tests.{eq-eqb, ne-eqb, lt-ltb, le-ltb}
+use borrow.Author.Tests.{eq-eqb, ne-eqb}
 use Rattle.wellformed.proofs.Laws.{both-yes}
 use Rattle.mrc_compiler.specs.Choose.{bySize}
 use mathlib.Core.Bool.{true, false}

@@ -1,6 +1,5 @@
-use borrow.Author.Tests.{eq-eqb, ne-eqb, lt-ltb, le-ltb}
+use borrow.Author.Tests.{eq-eqb, ne-eqb}
 use Rattle.x86.specs.Reading.{prefix}
-use borrow.Author.Needs.{needs}
 use Rattle.wellformed.proofs.is_prefix.Statement.{statement}
 use Rattle.wellformed.proofs.is_prefix.Tie as tie
 

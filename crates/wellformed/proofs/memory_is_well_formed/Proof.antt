@@ -1,5 +1,5 @@
 use mathlib.Core.Path.{sym, _∙_}
-use borrow.Author.Tests.{eq-eqb, ne-eqb, lt-ltb, le-ltb}
+use borrow.Author.Tests.{lt-ltb, le-ltb}
 use Rattle.wellformed.proofs.Laws.{both-yes}
 use Rattle.answers.specs.WellFormed.{displacementIn}
 use borrow.Author.Needs.{needs}

@@ -1,0 +1,97 @@
+//! What a call costs: our encoder, reader, lister and loader on the records of records.fsq, beside the Rust of docs/src and Zydis.
+//! `build` wraps this file and the Rust's sources into one crate; see README.md.
+
+#[allow(dead_code, unused_imports)]
+#[path = "../../differential/src/answers.rs"]
+mod answers;
+#[allow(dead_code, unused_imports)]
+#[path = "../../differential/src/records.rs"]
+mod records;
+
+mod clock;
+mod groups;
+mod rattle;
+mod rust;
+mod show;
+mod sides;
+#[cfg(zydis)]
+mod zydis;
+
+use clock::{clock, Figure};
+use show::Show;
+use sides::{Side, Slots};
+use std::process::ExitCode;
+
+/// Rounds that are timed, and rounds before them that are not. A round is all records once.
+const ROUNDS: usize = 10_000;
+const WARMING: usize = 100;
+const SHORT: usize = 3;
+
+pub fn main() -> ExitCode {
+    let arguments: Vec<String> = std::env::args().skip(1).collect();
+    let words: Vec<&str> = arguments.iter().map(String::as_str).collect();
+    let done = match words[..] {
+        ["full", file] => Show::read(file).and_then(|show| measure(&show, ROUNDS, WARMING, true)),
+        ["short", file] => Show::read(file).and_then(|show| measure(&show, SHORT, 0, false)),
+        ["work", file, side, rounds] => Show::read(file).and_then(|show| work(&show, side, rounds)),
+        _ => Err("full FILE, short FILE, or work FILE SIDE ROUNDS".to_string()),
+    };
+    match done {
+        Ok(()) => ExitCode::SUCCESS,
+        Err(why) => {
+            eprintln!("bench: {why}");
+            ExitCode::FAILURE
+        }
+    }
+}
+
+/// One side alone, for callgrind.
+fn work(show: &Show, name: &str, rounds: &str) -> Result<(), String> {
+    let side = sides::named(name).ok_or(format!("no side {name}"))?;
+    let mut slots = Slots::new(side, show.records.len());
+    for _ in 0..rounds.parse::<usize>().map_err(|e| e.to_string())? {
+        (side.round)(show, &mut slots);
+    }
+    Ok(())
+}
+
+/// Compares the answers of all sides, then times them. A short run says nothing about time.
+fn measure(show: &Show, rounds: usize, warming: usize, timed: bool) -> Result<(), String> {
+    println!("records: {}", groups::counts(show));
+    println!("bytes: {}", sides::agree(show)?);
+
+    let of = |names: &[&str]| -> Vec<(&Show, &Side)> { names.iter().filter_map(|name| Some((show, sides::named(name)?))).collect() };
+    let one_by_one = clock(&of(&["encode-rattle", "encode-rust", "encode-rust-alone"]), rounds, warming)?;
+    let reads = clock(&of(&["read-rattle", "read-zydis"]), rounds, warming)?;
+    let lists = clock(&of(&["list-rattle"]), rounds / 10 + 1, warming / 10)?;
+    let loads = clock(&of(&["load-rattle", "load-rust"]), rounds, warming)?;
+    let grown = [1, 2, 4, 8].map(|times| show.times(times));
+    let turns: Vec<(&Show, &Side)> =
+        grown.iter().flat_map(|longer| of(&["encode-rattle", "encode-rust"]).into_iter().map(move |(_, side)| (longer, side))).collect();
+    let growth = clock(&turns, rounds / 10 + 1, warming / 10)?;
+    if !timed {
+        println!("short: every side ran {rounds} rounds with equal answers; no claim about time");
+        return Ok(());
+    }
+
+    println!("{rounds} rounds, in brackets the 10th to the 90th percentile");
+    both("encode", "/record", &one_by_one[0], "rust", &one_by_one[1]);
+    println!("        rust encode alone {}/record, ratio {:.2}", one_by_one[2], one_by_one[0].over(&one_by_one[2]));
+    match reads.get(1) {
+        Some(zydis) => both("read", "", &reads[0], "zydis", zydis),
+        None => println!("read: rattle {}, zydis is not here", reads[0]),
+    }
+    println!("list: rattle {}/record", lists[0]);
+    both("load", "/record", &loads[0], "rust", &loads[1]);
+    for (longer, figures) in grown.iter().zip(growth.chunks(2)) {
+        let n = longer.records.len();
+        let said = |figure: &Figure| format!("{:.0} us, {figure}/record", figure.median * n as f64 / 1000.0);
+        println!("growth: {n} encodes: rattle {}; rust {}", said(&figures[0]), said(&figures[1]));
+    }
+    Ok(())
+}
+
+fn both(name: &str, each: &str, ours: &Figure, other: &str, theirs: &Figure) {
+    println!("{name}: rattle {:.1} ns{each}, {other} {:.1} ns{each}, ratio {:.2}", ours.median, theirs.median, ours.over(theirs));
+    println!("        rattle {ours}, {other} {theirs}");
+}

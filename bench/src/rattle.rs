@@ -1,0 +1,42 @@
+//! Our library behind its C functions.
+
+extern "C" {
+    fn fsq_encode(record: *const u8, record_len: usize, offset: u16, out: *mut u8, out_len: usize, report: *mut u8, report_len: usize) -> u8;
+    fn fsq_list(record: *const u8, record_len: usize, offset: u16, out: *mut u8, out_len: usize, report: *mut u8, report_len: usize) -> u8;
+    fn fsq_read(bytes: *const u8, bytes_len: usize, offset: u16, out: *mut u8, out_len: usize) -> u8;
+    fn fsq_load(file: *const u8, file_len: usize, image: *mut u8, image_len: usize, report: *mut u8, report_len: usize) -> u8;
+}
+
+pub type Report = [u8; 28];
+
+fn length(report: &Report) -> usize {
+    u32::from_le_bytes([report[0], report[1], report[2], report[3]]) as usize
+}
+
+/// The length of the record's bytes, which stand at the front of out; nothing where it is refused.
+#[inline]
+pub fn encode(record: &[u8; 56], offset: u16, out: &mut [u8], report: &mut Report) -> Option<usize> {
+    let number = unsafe { fsq_encode(record.as_ptr(), record.len(), offset, out.as_mut_ptr(), out.len(), report.as_mut_ptr(), report.len()) };
+    (number == 0).then(|| length(report))
+}
+
+/// The number of entries of 8 bytes in out.
+#[inline]
+pub fn list(record: &[u8; 56], offset: u16, out: &mut [u8], report: &mut Report) -> Option<usize> {
+    let number = unsafe { fsq_list(record.as_ptr(), record.len(), offset, out.as_mut_ptr(), out.len(), report.as_mut_ptr(), report.len()) };
+    (number == 0).then(|| length(report))
+}
+
+/// The length of the instruction at the front of the bytes.
+#[inline]
+pub fn read(bytes: &[u8], offset: u16, out: &mut [u8; 24]) -> Option<usize> {
+    let number = unsafe { fsq_read(bytes.as_ptr(), bytes.len(), offset, out.as_mut_ptr(), out.len()) };
+    (number == 0).then(|| out[0] as usize)
+}
+
+/// The length of the file's image, which stands at the front of image.
+#[inline]
+pub fn load(file: &[u8], image: &mut [u8], report: &mut Report) -> Option<usize> {
+    let number = unsafe { fsq_load(file.as_ptr(), file.len(), image.as_mut_ptr(), image.len(), report.as_mut_ptr(), report.len()) };
+    (number == 0).then(|| length(report))
+}

@@ -1,0 +1,64 @@
+//! The show that is measured: its file, its records and their offsets.
+
+use super::answers::{self, Run};
+use super::groups;
+use super::records::{Packed, FAR, IMM};
+use super::rust;
+use crate::encoder::InstructionData;
+
+pub struct Show {
+    pub file: Vec<u8>,
+    pub records: Vec<Packed>,
+    pub offsets: Vec<u16>,
+    /// the records in the Rust's own data
+    pub instructions: Vec<InstructionData>,
+    /// the bytes of each record, by the Rust
+    pub strings: Vec<Run>,
+}
+
+impl Show {
+    pub fn read(path: &str) -> Result<Show, String> {
+        let file = std::fs::read(path).map_err(|e| format!("{path}: {e}"))?;
+        if file.len() < 9 || file[..5] != *b"FSQ\x01\x00" || file.len() != 9 + 56 * u16::from_le_bytes([file[7], file[8]]) as usize {
+            return Err(format!("{path} is no show file"));
+        }
+        let mut offset = u16::from_le_bytes([file[5], file[6]]);
+        let mut show = Show { records: Vec::new(), offsets: Vec::new(), instructions: Vec::new(), strings: Vec::new(), file };
+        for (n, record) in show.file[9..].chunks(56).enumerate() {
+            let record: Packed = record.try_into().unwrap();
+            let mut out = [0; 8];
+            let length = rust::encode_record(&record, offset, &mut out).ok_or(format!("record {n}: the Rust refuses it"))?;
+            show.records.push(record);
+            show.offsets.push(offset);
+            show.strings.push(answers::run(&out[..length]));
+            offset = offset.wrapping_add(length as u16);
+        }
+        show.instructions = show.records.iter().filter_map(rust::instruction).collect();
+        show.branches_land()?;
+        Ok(show)
+    }
+
+    /// Every near branch goes to the start of a record: the lengths that make.py counts with are the right ones.
+    fn branches_land(&self) -> Result<(), String> {
+        for (n, record) in self.records.iter().enumerate() {
+            let (branch, kind, jump) = (groups::is_branch(record[0]), record[10], record[14]);
+            let target = i32::from_le_bytes(record[17..21].try_into().unwrap());
+            if branch && kind == IMM && jump != FAR && !self.offsets.iter().any(|start| *start as i32 == target) {
+                return Err(format!("record {n}: its target {target} is not the start of a record"));
+            }
+        }
+        Ok(())
+    }
+
+    /// The records so many times over, each at its offset. The file stays.
+    pub fn times(&self, n: usize) -> Show {
+        let records = self.records.repeat(n);
+        Show {
+            file: self.file.clone(),
+            instructions: records.iter().filter_map(rust::instruction).collect(),
+            records,
+            offsets: self.offsets.repeat(n),
+            strings: self.strings.repeat(n),
+        }
+    }
+}

@@ -1,0 +1,182 @@
+//! The sides that are timed. Each does a round: all records of the show once, into slots that stand ready.
+
+use super::answers::Run;
+use super::rattle::{self, Report};
+use super::rust;
+use super::show::Show;
+#[cfg(zydis)]
+use super::zydis;
+
+/// What a round writes for each record, beside a length or count.
+#[derive(Clone, Copy, PartialEq, Eq)]
+pub enum Writes {
+    Bytes,
+    Lengths,
+    Lists,
+    Image,
+}
+
+/// Only what a side writes is there, so that clearing it does not fill the processor's caches with the rest.
+pub struct Slots {
+    bytes: Vec<[u8; 8]>,
+    lengths: Vec<usize>,
+    lists: Vec<[u8; 96]>,
+    image: Vec<u8>,
+}
+
+impl Slots {
+    pub fn new(side: &Side, records: usize) -> Slots {
+        let of = |writes| if side.writes == writes { records } else { 0 };
+        Slots {
+            bytes: vec![[0; 8]; of(Writes::Bytes)],
+            lengths: vec![0; records],
+            lists: vec![[0; 96]; of(Writes::Lists)],
+            image: vec![0; 7 * of(Writes::Image)],
+        }
+    }
+
+    /// Before each round, outside the clock.
+    pub fn clear(&mut self) {
+        self.bytes.fill([0; 8]);
+        self.lengths.fill(0);
+        self.lists.fill([0; 96]);
+        self.image.fill(0);
+    }
+}
+
+pub struct Side {
+    pub name: &'static str,
+    writes: Writes,
+    pub round: fn(&Show, &mut Slots),
+    /// Are these the answers of a round? Else what is wrong.
+    pub answers: fn(&Show, &Slots) -> Result<(), String>,
+}
+
+const SIDES: &[Side] = &[
+    Side { name: "encode-rattle", writes: Writes::Bytes, round: encode_rattle, answers: bytes },
+    Side { name: "encode-rust", writes: Writes::Bytes, round: encode_rust, answers: bytes },
+    Side { name: "encode-rust-alone", writes: Writes::Bytes, round: encode_rust_alone, answers: bytes },
+    Side { name: "read-rattle", writes: Writes::Lengths, round: read_rattle, answers: lengths },
+    #[cfg(zydis)]
+    Side { name: "read-zydis", writes: Writes::Lengths, round: read_zydis, answers: lengths_but_for_prefixes },
+    Side { name: "list-rattle", writes: Writes::Lists, round: list_rattle, answers: lists },
+    Side { name: "load-rattle", writes: Writes::Image, round: load_rattle, answers: image },
+    Side { name: "load-rust", writes: Writes::Image, round: load_rust, answers: image },
+];
+
+pub fn named(name: &str) -> Option<&'static Side> {
+    SIDES.iter().find(|side| side.name == name)
+}
+
+/// Runs every side once and compares its answers with those of the Rust.
+pub fn agree(show: &Show) -> Result<String, String> {
+    for side in SIDES {
+        let mut slots = Slots::new(side, show.records.len());
+        (side.round)(show, &mut slots);
+        (side.answers)(show, &slots).map_err(|why| format!("{}: {why}", side.name))?;
+    }
+    let total: usize = show.strings.iter().map(|string| string.len).sum();
+    let names: Vec<&str> = SIDES.iter().map(|side| side.name).collect();
+    Ok(format!("{total} in {} records, equal on all sides: {}", show.records.len(), names.join(", ")))
+}
+
+#[inline(never)]
+fn encode_rattle(show: &Show, slots: &mut Slots) {
+    let mut report: Report = [0; 28];
+    for (n, record) in show.records.iter().enumerate() {
+        slots.lengths[n] = rattle::encode(record, show.offsets[n], &mut slots.bytes[n], &mut report).unwrap_or(0);
+    }
+}
+
+#[inline(never)]
+fn encode_rust(show: &Show, slots: &mut Slots) {
+    for (n, record) in show.records.iter().enumerate() {
+        slots.lengths[n] = rust::encode_record(record, show.offsets[n], &mut slots.bytes[n]).unwrap_or(0);
+    }
+}
+
+#[inline(never)]
+fn encode_rust_alone(show: &Show, slots: &mut Slots) {
+    for (n, instruction) in show.instructions.iter().enumerate() {
+        slots.lengths[n] = rust::encode_alone(instruction, show.offsets[n], &mut slots.bytes[n]).unwrap_or(0);
+    }
+}
+
+#[inline(never)]
+fn read_rattle(show: &Show, slots: &mut Slots) {
+    let mut out = [0; 24];
+    for (n, string) in show.strings.iter().enumerate() {
+        slots.lengths[n] = rattle::read(&string.bytes[..string.len], show.offsets[n], &mut out).unwrap_or(0);
+    }
+}
+
+#[cfg(zydis)]
+#[inline(never)]
+fn read_zydis(show: &Show, slots: &mut Slots) {
+    for (n, string) in show.strings.iter().enumerate() {
+        slots.lengths[n] = zydis::read(&string.bytes[..string.len]);
+    }
+}
+
+#[inline(never)]
+fn list_rattle(show: &Show, slots: &mut Slots) {
+    let mut report: Report = [0; 28];
+    for (n, record) in show.records.iter().enumerate() {
+        slots.lengths[n] = rattle::list(record, show.offsets[n], &mut slots.lists[n], &mut report).unwrap_or(0);
+    }
+}
+
+#[inline(never)]
+fn load_rattle(show: &Show, slots: &mut Slots) {
+    let mut report: Report = [0; 28];
+    slots.lengths[0] = rattle::load(&show.file, &mut slots.image, &mut report).unwrap_or(0);
+}
+
+/// The Rust has no loader: each record of the file read and encoded, behind the one before it.
+#[inline(never)]
+fn load_rust(show: &Show, slots: &mut Slots) {
+    let mut offset = u16::from_le_bytes([show.file[5], show.file[6]]);
+    let mut at = 0;
+    for record in show.file[9..].chunks_exact(56) {
+        let length = rust::encode_record(record.try_into().unwrap(), offset, &mut slots.image[at..]).unwrap_or(0);
+        offset = offset.wrapping_add(length as u16);
+        at += length;
+    }
+    slots.lengths[0] = at;
+}
+
+fn each(show: &Show, fine: impl Fn(usize, &Run) -> bool) -> Result<(), String> {
+    match show.strings.iter().enumerate().find(|(n, string)| !fine(*n, string)) {
+        Some((n, _)) => Err(format!("record {n} has another answer")),
+        None => Ok(()),
+    }
+}
+
+fn bytes(show: &Show, slots: &Slots) -> Result<(), String> {
+    each(show, |n, string| slots.lengths[n] == string.len && slots.bytes[n][..7] == string.bytes && slots.bytes[n][7] == 0)
+}
+
+fn lengths(show: &Show, slots: &Slots) -> Result<(), String> {
+    each(show, |n, string| slots.lengths[n] == string.len)
+}
+
+/// LOCK, REPNE and REP alone are no instruction to Zydis.
+#[cfg(zydis)]
+fn lengths_but_for_prefixes(show: &Show, slots: &Slots) -> Result<(), String> {
+    each(show, |n, string| slots.lengths[n] == if matches!(string.bytes[0], 0xF0 | 0xF2 | 0xF3) { 0 } else { string.len })
+}
+
+/// The record's own string is among the entries.
+fn lists(show: &Show, slots: &Slots) -> Result<(), String> {
+    each(show, |n, string| slots.lists[n].chunks(8).take(slots.lengths[n]).any(|entry| entry[0] as usize == string.len && entry[1..] == string.bytes))
+}
+
+fn image(show: &Show, slots: &Slots) -> Result<(), String> {
+    let whole: Vec<u8> = show.strings.iter().flat_map(|string| &string.bytes[..string.len]).copied().collect();
+    let (front, behind) = slots.image.split_at(whole.len());
+    if slots.lengths[0] == whole.len() && front == whole && behind.iter().all(|byte| *byte == 0) {
+        Ok(())
+    } else {
+        Err("another image".to_string())
+    }
+}

@@ -1,0 +1,85 @@
+// A show file, loaded.
+ghost use mathlib.Core.Path.{_≡_};
+ghost use lib.ListN.{length};
+ghost use Rattle.loader.specs.Loading.{loaded, imageAfter};
+ghost use Rattle.foreign.specs.Crossing.{reportAfter};
+ghost use Rattle.foreign.specs.LoadShow.{ofRecord, toldLoadError, toldLoaded};
+use crate::report::NO_RECORD;
+use crate::report::Told;
+use crate::report::told_alone;
+use crate::report::told_refusal;
+use crate::report::write_report;
+use loader::LoadError;
+use loader::Loaded;
+use mrc_compiler::ast::Span;
+
+// What is told, of record k of a file.
+fn of_record(told: Told, k: usize) -> Told
+    ensures { λ r. ⌜ r ≡ ofRecord told k ⌝ }
+{
+    let number = told.number;
+    let length = told.length;
+    let span = told.span;
+    let value = told.value;
+    let low = told.low;
+    let high = told.high;
+    Told {
+        number,
+        length,
+        span,
+        value,
+        low,
+        high,
+        record: (k % 4294967296) as u32,
+    }
+}
+
+// A refusal of the loader.
+fn told_load_error(error: LoadError) -> Told
+    ensures { λ r. ⌜ r ≡ toldLoadError error ⌝ }
+{
+    match error {
+        LoadError::NoMark => told_alone(12),
+        LoadError::WrongVersion => told_alone(13),
+        LoadError::WrongLength => told_alone(14),
+        LoadError::UnknownCode(k) => of_record(told_alone(15), k),
+        LoadError::Record(k, e) => of_record(told_refusal(e), k),
+    }
+}
+
+// An answer of the loader.
+fn told_loaded(answer: Loaded) -> Told
+    ensures { λ r. ⌜ r ≡ toldLoaded answer ⌝ }
+{
+    match answer {
+        Loaded::Image(_, n) => Told {
+            number: 0,
+            length: (n % 4294967296) as u32,
+            span: Span { start: 0, end: 0 },
+            value: 0,
+            low: 0,
+            high: 0,
+            record: NO_RECORD,
+        },
+        Loaded::Refused(error) => told_load_error(error),
+    }
+}
+
+// Loads a show file.
+//   file     the whole file, mark and header first
+//   image    gets the bytes of the records at its front; its later bytes stay, and a refusal leaves it as it was
+//   report   as fsq_encode's; its length is the image's, its record the index (the first is 0) of the record that a refusal is of, 4294967295 for 0 and 12 to 14
+//   answer   0, or the refusal's number: 12 to 14 of the file; 15 of the first record with an unknown code; 1 to 8 of the first record that the encoder
+//            refuses; 9 of the first record that ends behind the image's end
+// In C: uint8_t fsq_load(const uint8_t *file, size_t file_len, uint8_t *image, size_t image_len, uint8_t *report, size_t report_len);
+#[no_mangle]
+pub extern "C" fn fsq_load(file: &[u8], image: &mut [u8], report: &mut [u8]) -> u8
+    ensures { λ r. ⌜ r ≡ toldLoaded (loaded (now (file .entry)) (length (now (image .entry)))) .number ⌝ }
+    ensures { λ _. ⌜ now (image .exit) ≡ imageAfter (now (file .entry)) (now (image .entry)) ⌝ }
+    ensures { λ _. ⌜ now (report .exit) ≡ reportAfter (toldLoaded (loaded (now (file .entry)) (length (now (image .entry))))) (now (report .entry)) ⌝ }
+{
+    let answer = loader::load(file, image);
+    let told = told_loaded(answer);
+    write_report(told, report);
+    told.number
+}

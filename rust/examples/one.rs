@@ -1,0 +1,18 @@
+//! Encodes Word ADD [BX],5, reads it back, lists all of its strings, and shows a refusal.
+
+use fsq::{encode, list, read, Base, Instruction, Operand, Operation, Refusal};
+
+fn main() -> Result<(), Refusal> {
+    let add = Instruction::two(Operation::ADD, Operand::memory(Base::BX, 0).word(), 5);
+    let bytes = encode(&add, 256)?;
+    println!("encoded: {bytes}");
+    println!("read: {}", read(&bytes, 256)?);
+    println!("listed: {}", list(&add, 256)?.len());
+    print!("{}", list(&add, 256)?);
+
+    let mov = Instruction::two(Operation::MOV, Operand::memory(Base::BX, 0).byte(), 300);
+    if let Err(refusal) = encode(&mov, 256) {
+        println!("refused: {}, {refusal}", refusal.number());
+    }
+    Ok(())
+}
