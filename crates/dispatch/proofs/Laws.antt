@@ -13,9 +13,9 @@ use Rattle.mrc_compiler.specs.declared.operations.Operation.the-variants as Op
 use Rattle.plans.specs.Plans.{planOf}
 use Rattle.plans.specs.Blocks.{adjustPlan, arithmeticPlan, callPlan, conditionalPlan, exchangePlan, incDecPlan, inputPlan, interruptPlan, jumpPlan, loadPlan, loopPlan, movePlan, outputPlan, popPlan, pushPlan, returnPlan, shiftPlan, singlePlan, testPlan, translatePlan, unaryPlan}
 use Rattle.plans.proofs.Operations.{of-ADD, of-OR, of-ADC, of-SBB, of-AND, of-SUB, of-XOR, of-CMP, of-NOT, of-NEG, of-MUL, of-IMUL, of-DIV, of-IDIV, of-MOV, of-TEST, of-XCHG, of-INC, of-DEC, of-PUSH, of-POP, of-RET, of-LEA, of-LES, of-LDS, of-ROL, of-ROR, of-RCL, of-RCR, of-SHL, of-SHR, of-SAR, of-CALL, of-JMP, of-JO, of-JNO, of-JB, of-JNB, of-JE, of-JNE, of-JBE, of-JNBE, of-JS, of-JNS, of-JP, of-JNP, of-JL, of-JNL, of-JLE, of-JNLE, of-LOOPNZ, of-LOOPZ, of-LOOP, of-JCXZ, of-DAA, of-DAS, of-AAA, of-AAS, of-NOP, of-CBW, of-CWD, of-INT3, of-INTO, of-IRET, of-SALC, of-HLT, of-CMC, of-CLC, of-STC, of-CLI, of-STI, of-CLD, of-STD, of-PUSHF, of-POPF, of-SAHF, of-LAHF, of-MOVSB, of-CMPSB, of-STOSB, of-LODSB, of-SCASB, of-MOVSW, of-CMPSW, of-STOSW, of-LODSW, of-SCASW, of-LOCK, of-REPNE, of-REP, of-INT, of-AAM, of-AAD, of-XLATB, of-IN, of-OUT, of-INT1, of-WAIT, of-ESC}
-use Rattle.dispatch.specs.declared.Group.{Group}
-use Rattle.dispatch.specs.declared.Group.the-variants as Gr
-use Rattle.dispatch.specs.Grouping.{groupedOf}
+use Rattle.groups.specs.declared.Group.{Group}
+use Rattle.groups.specs.declared.Group.the-variants as Gr
+use Rattle.groups.specs.Grouping.{groupedOf}
 
 -- the plan of a group with a base
 abbrev pub planIn : Group → ℕ → InstructionData → Plan

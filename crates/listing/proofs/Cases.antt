@@ -19,7 +19,7 @@ use Rattle.x86.specs.Instructions.{canonical}
 use Rattle.x86.specs.Reading.{startingWith, readForm, prefix, reads}
 use Rattle.answers.specs.Groups.{groupOf}
 use Rattle.answers.specs.Meaning.{counted, meant, meaning}
-use Rattle.dispatch.specs.Grouping.{groupedOf}
+use Rattle.groups.specs.Grouping.{groupedOf}
 use Rattle.listing.specs.Operands.{sameOperand, sameInstruction}
 use Rattle.listing.specs.Starts.{arithmeticImmediate, arithmetic, exchange, single, startIn, startOf}
 use Rattle.listing.specs.Candidates.{stringOf, candidate}

@@ -15,7 +15,7 @@ use Rattle.x86.specs.Instructions.{canonical}
 use Rattle.x86.specs.Forms.{Form, forms}
 use Rattle.x86.specs.Reading.{some, startingWith, fitting, hasSecond, instructionOf}
 use Rattle.x86.proofs.Tests.{upTo, upTo-at, eachOf, each-at}
-use Rattle.dispatch.specs.Grouping.{groupedOf}
+use Rattle.groups.specs.Grouping.{groupedOf}
 use Rattle.listing.specs.declared.Start.{Start}
 use Rattle.listing.specs.Starts.{arithmeticImmediate, arithmetic, unary, incDec, moveImmediate, moveFrom, moveInto, move, exchange, stack, load, shift, call, jump, single, port, startIn, startOf}
 use Rattle.listing.proofs.ByForm.{startBy, sameStart}

@@ -12,9 +12,9 @@ use Rattle.mrc_compiler.specs.Choose.{pick, both}
 use Rattle.x86.specs.declared.Instruction.{Instruction}
 use Rattle.x86.specs.Reading.{mode, low, displacementLength}
 use Rattle.answers.specs.Layout.{wordBytes, prefixBytes}
-use Rattle.dispatch.specs.declared.Group.{Group}
-use Rattle.dispatch.specs.declared.Group.the-variants as Gr
-use Rattle.dispatch.specs.Grouping.{groupedOf}
+use Rattle.groups.specs.declared.Group.{Group}
+use Rattle.groups.specs.declared.Group.the-variants as Gr
+use Rattle.groups.specs.Grouping.{groupedOf}
 use Rattle.listing.specs.declared.Outline.{Outline}
 use Rattle.listing.specs.declared.Second.{Second}
 use Rattle.listing.specs.declared.Second.the-variants as X

@@ -7,9 +7,9 @@ use lib.Dec.{eqb}
 use Rattle.mrc_compiler.specs.declared.encoder.OperandSize.{OperandSize}
 use Rattle.mrc_compiler.specs.Choose.{pick, both, bySize}
 use Rattle.x86.specs.declared.Instruction.{Instruction}
-use Rattle.dispatch.specs.declared.Group.{Group}
-use Rattle.dispatch.specs.declared.Group.the-variants as Gr
-use Rattle.dispatch.specs.Grouping.{groupedOf}
+use Rattle.groups.specs.declared.Group.{Group}
+use Rattle.groups.specs.declared.Group.the-variants as Gr
+use Rattle.groups.specs.Grouping.{groupedOf}
 use Rattle.listing.specs.declared.Outline.{Outline}
 use Rattle.listing.specs.declared.Second.{Second}
 use Rattle.listing.specs.declared.Second.the-variants as X

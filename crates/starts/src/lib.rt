@@ -4,7 +4,7 @@ ghost use Rattle.listing.specs.declared.Second.the-variants.{Fixed};
 ghost use Rattle.listing.specs.declared.Tail.the-variants.{None};
 ghost use Rattle.listing.specs.Operands.{outlineOf};
 ghost use Rattle.listing.specs.Starts.{start, bare, sized, immediate, plus, modrm, withRm, arithmeticImmediate, arithmetic, unary, incDec, moveImmediate, moveFrom, moveInto, move, exchange, stack, load, shift, call, jump, single, port, startIn, startOf};
-use dispatch::Group;
+use groups::Group;
 use listing::Outline;
 use listing::Second;
 use listing::Start;
@@ -403,7 +403,7 @@ pub fn start_of(insn: Instruction, way: u8, mode: u8) -> Start
     ensures { λ r. ⌜ r ≡ startOf insn way mode ⌝ }
 {
     let operation = insn.operation;
-    let grouped = dispatch::group_of(operation);
+    let grouped = groups::group_of(operation);
     let group = grouped.group;
     let base = grouped.base;
     let width = insn.width;

@@ -2,8 +2,8 @@
 -- Definitions only.
 use Rattle.mrc_compiler.specs.declared.operations.Operation.{Operation}
 use Rattle.mrc_compiler.specs.declared.operations.Operation.the-variants as Op
-use Rattle.dispatch.specs.declared.Group.the-variants as Gr
-use Rattle.dispatch.specs.declared.Grouped.{Grouped}
+use Rattle.groups.specs.declared.Group.the-variants as Gr
+use Rattle.groups.specs.declared.Grouped.{Grouped}
 
 unfoldable pub groupedOf : Operation → Grouped
 groupedOf Op.ADD = record { group = Gr.Arithmetic; base = 0x00 }

@@ -1,7 +1,7 @@
 use borrow.Author.Needs.{needs}
-use Rattle.dispatch.specs.Grouping.{groupedOf}
-use Rattle.dispatch.proofs.group_of.Statement.{statement}
-use Rattle.dispatch.proofs.group_of.Tie as tie
+use Rattle.groups.specs.Grouping.{groupedOf}
+use Rattle.groups.proofs.group_of.Statement.{statement}
+use Rattle.groups.proofs.group_of.Tie as tie
 
 enum-told : tie.Need-enum-told
 enum-told c = search needs
