@@ -7,13 +7,13 @@ immediate in both operands, as the Rust takes the first's.
 
 The length of each record is put together from the SDM's form: prefix, opcode, ModRM, the displacement that mode and r/m ask for, immediate. The offsets
 follow from the lengths, and near branches go to the start of a record within their reach."""
+import pathlib
 import struct
 import sys
 
-OPERATIONS = """MOV PUSH POP XCHG IN OUT XLATB LEA LDS LES LAHF SAHF PUSHF POPF ADD ADC INC AAA DAA SUB SBB DEC NEG CMP AAS DAS MUL IMUL AAM DIV
-IDIV AAD CBW CWD NOT SHL SHR SAR ROL ROR RCL RCR AND TEST OR XOR REP REPNE MOVSB MOVSW CMPSB CMPSW SCASB SCASW LODSB LODSW STOSB STOSW CALL JMP
-RET JE JL JLE JB JBE JP JO JS JNE JNL JNLE JNB JNBE JNP JNO JNS LOOP LOOPZ LOOPNZ JCXZ INT INT1 INT3 INTO IRET CLC CMC STC CLD STD CLI STI HLT
-WAIT ESC LOCK NOP SALC""".split()
+sys.path.insert(0, str(pathlib.Path(__file__).resolve().parent.parent / 'tools'))
+from operations import OPERATIONS
+
 ORIGIN = 256
 IMM, REG, SEG, MEM = range(4)
 ANY, BYTE, WORD = range(3)

@@ -14,15 +14,16 @@ use Rattle.mrc_compiler.specs.declared.operations.Operation.{Operation}
 use Rattle.mrc_compiler.specs.Choose.{pick, both}
 use Rattle.mrc_compiler.specs.Operations.{sameOperation}
 use Rattle.x86.specs.declared.Instruction.{Instruction}
-use Rattle.x86.specs.Instructions.{symmetric, canonical}
+use Rattle.x86.specs.Instructions.{canonical}
 use Rattle.x86.specs.Forms.{Slot, Form, forms}
 use Rattle.x86.specs.Reading.{widthOf}
 use Rattle.x86.proofs.Tests.{kept}
 use Rattle.answers.specs.Records.{dst, src}
 use Rattle.answers.specs.WellFormed.{wellFormed}
-use Rattle.answers.specs.Groups.{Group, groupOf}
+use Rattle.groups.specs.declared.Group.{Group}
+use Rattle.groups.specs.Grouping.{groupOf}
 use Rattle.answers.specs.Meaning.{meaning}
-use Rattle.answers.specs.Choice.{Choice, none, straight, crossed, takes, sizeIn, choose, countTaken, formsOf}
+use Rattle.answers.specs.Choice.{Choice, none, straight, crossed, takes, sizeIn, choose, countTaken, eitherWay, formsOf}
 use Rattle.answers.specs.Layout.{layout}
 use Rattle.answers.specs.Limits.{Asked, ofSlot}
 use Rattle.answers.specs.Questions.{isForm, formAsked, chosen, questions}
@@ -131,7 +132,7 @@ module _ (insn : InstructionData) (off : ℕ) (h : off < 65536) where
   b = src insn
 
   -- where the form is chosen with the operands as they stand, and where they are crossed
-  chosen-reads : (c : Choice) → Picked (symmetric op) (formsOf op) (sizeIn g a b a) a (sizeIn g a b b) b c → wellFormed a ≡ true → wellFormed b ≡ true
+  chosen-reads : (c : Choice) → Picked (eitherWay g) (formsOf op) (sizeIn g a b a) a (sizeIn g a b b) b c → wellFormed a ≡ true → wellFormed b ≡ true
       → isForm c ≡ true → firstNo (formAsked g c off a b) ≡ all-yes → Reads off (meaning insn) (written c off a b)
   chosen-reads none p wa wb e q = false-true e
   chosen-reads (straight f) p wa wb e q =
@@ -148,8 +149,8 @@ module _ (insn : InstructionData) (off : ℕ) (h : off < 65536) where
 
   -- whether or not the count is taken
   choice-picked : (i : Bool)
-      → Picked (symmetric op) (formsOf op) (sizeIn g a b a) a (sizeIn g a b b) b (pick i (choose (symmetric op) (formsOf op) (sizeIn g a b a) a (sizeIn g a b b) b) none)
-  choice-picked true = picked (symmetric op) (sizeIn g a b a) a (sizeIn g a b b) b (formsOf op)
+      → Picked (eitherWay g) (formsOf op) (sizeIn g a b a) a (sizeIn g a b b) b (pick i (choose (eitherWay g) (formsOf op) (sizeIn g a b a) a (sizeIn g a b b) b) none)
+  choice-picked true = picked (eitherWay g) (sizeIn g a b a) a (sizeIn g a b b) b (formsOf op)
   choice-picked false = tt
 
   all-yes-reads : firstNo (questions insn off) ≡ all-yes → Reads off (meaning insn) (written (chosen insn) off a b)

@@ -20,7 +20,7 @@ use Rattle.mrc_compiler.specs.Builders.{immediateOperand, registerOperand, indi
 use Rattle.x86.specs.Forms.{forms}
 use Rattle.x86.specs.Reading.{prefix}
 use Rattle.answers.specs.WellFormed.{wellFormed}
-use Rattle.answers.specs.Groups.{groupOf}
+use Rattle.groups.specs.Grouping.{groupedOf}
 use Rattle.answers.specs.Choice.{formsOf}
 use Rattle.answers.specs.Layout.{layout}
 use Rattle.answers.specs.Questions.{questions}
@@ -74,7 +74,7 @@ pub record Rows (off : ℕ) : Type 0 where
   pub mov-byte-bx-300 : answer (withTwo Op.MOV (indirectOperand one 7 (pos 0) (OD.Some D.Byte) OG.None) (immediate (pos 300))) off ≡ refused (E.ImmediateOutOfRange two (pos 300) (negsuc 127) (pos 255))
 
 rows : (off : ℕ) → Rows off
-unfolding answer questions wellFormed prefix groupOf formsOf forms numberOf layout
+unfolding answer questions wellFormed prefix groupedOf formsOf forms numberOf layout
 rows off = record {
   mov-ax-4660 = refl;
   aam = refl;

@@ -8,3 +8,5 @@ pub mod ReadBack
 pub mod Meanings
 pub mod Operations
 pub mod Accepted
+pub mod Numbers
+pub mod Outcomes

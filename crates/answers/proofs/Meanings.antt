@@ -16,20 +16,21 @@ use Rattle.mrc_compiler.specs.declared.encoder.OperandKind.the-variants as K
 use Rattle.mrc_compiler.specs.declared.encoder.OperandSize.{OperandSize}
 use Rattle.mrc_compiler.specs.declared.encoder.OperandSize.the-variants as S
 use Rattle.mrc_compiler.specs.declared.operations.Operation.{Operation}
-use Rattle.mrc_compiler.specs.declared.operations.Operation.the-variants as Op
 use Rattle.mrc_compiler.specs.Choose.{pick, both, byJump}
-use Rattle.mrc_compiler.specs.Operations.{numberOf}
 use Rattle.x86.specs.declared.Operand.{Operand}
 use Rattle.x86.specs.declared.Operand.the-variants as O
-use Rattle.x86.specs.Instructions.{instruction, canonical}
+use Rattle.x86.specs.Instructions.{symmetric, instruction, canonical}
 use Rattle.x86.specs.Forms.{byte, word, Slot, rm, rm-near, reg, acc, low3, CL, DX, one, ib, iw, ib-sx, cw, ptr, Form}
 use Rattle.x86.specs.Forms as F
 use Rattle.x86.specs.Reading.{widthOf}
 use Rattle.answers.specs.Records.{sameSize, statedOf}
-use Rattle.answers.specs.Groups.{Group}
-use Rattle.answers.specs.Groups as G
-use Rattle.answers.specs.Meaning.{counted, port, count, nearTarget, farTarget, transfer, ofTwo, meant}
-use Rattle.answers.specs.Choice.{takes, sizeIn}
+use Rattle.groups.specs.declared.Group.{Group}
+use Rattle.groups.specs.declared.Group.the-variants as G
+use Rattle.answers.specs.Operands.{counted, port, count, nearTarget, farTarget, ofNone, ofTwo, ofAddress, ofNear, ofTransfer}
+use Rattle.answers.specs.Rules.{either-states, rule}
+use Rattle.answers.specs.Blocks.{block}
+use Rattle.answers.specs.Meaning.{meant}
+use Rattle.answers.specs.Choice.{takes, sizeIn, eitherWay}
 use Rattle.answers.proofs.Values.{false-true, both-true}
 use Rattle.answers.proofs.Operands.{imm-taken, reg-taken, rm-taken}
 use Rattle.answers.proofs.Slots.{holds}
@@ -113,6 +114,10 @@ record OfTwo (g : Group) : Type 0 where
   pub size : (a b o : OperandData) → sizeIn g a b o ≡ statedOf (a .size) (b .size)
   pub meaning : (op : Operation) (a b : OperandData) → ofTwo op a b ≡ meant g op a b
 
+of-two : {g : Group} → rule g .sizing ≡ either-states → rule g .means ≡ ofTwo → OfTwo g
+unfolding meant
+of-two s m = record { size = λ a b o. rw s; meaning = λ op a b. rw m }
+
 two-at : (f : Form) (z : OperandSize) → Holds (f .first) (counted (widthOf f)) → Holds (f .second) (counted (widthOf f)) → z ≡ widthOf f
     → (a b : OperandData)
     → takes (f .first) z a ≡ true → takes (f .second) z b ≡ true
@@ -148,6 +153,11 @@ record OfFirst (g : Group) (r : OperandData → Operand) : Type 0 where
   pub size : (a b o : OperandData) → sizeIn g a b o ≡ o .size
   pub meaning : (op : Operation) (a b : OperandData) → canonical op (a .size) (counted (a .size) a) (r b) ≡ meant g op a b
 
+of-first : {g : Group} {r : OperandData → Operand} → ((a b o : OperandData) → sizeIn g a b o ≡ o .size)
+    → ((op : Operation) (a b : OperandData) → canonical op (a .size) (counted (a .size) a) (r b) ≡ rule g .means op a b) → OfFirst g r
+unfolding meant
+of-first s m = record { size = s; meaning = m }
+
 own : {g : Group} {f : Form} {r : OperandData → Operand} → OfFirst g r → ArrangedForm f → Sized (f .first) (widthOf f)
     → Holds (f .first) (counted (widthOf f)) → Holds (f .second) r
     → Leaf g (f .operation) f
@@ -169,104 +179,76 @@ all-at end m = absurd (List·Memᴰ·not-nil m)
 all-at {P} (p & ps) m = ⊎-elim (λ e. subst P (sym e) p) (λ l. all-at ps l) (List·Memᴰ·cases-cons m)
 
 -- ---- the blocks of the list
-of-arithmetic : OfTwo G.arithmetic
-unfolding meant
-of-arithmetic = record { size = λ a b o. refl; meaning = λ op a b. refl }
-
-pub arithmetic-leaves : (b : ℕ) (op : Operation) → All (Leaf G.arithmetic op) (F.arithmetic b op)
+arithmetic-leaves : (b : ℕ) (op : Operation) → All (Leaf G.Arithmetic op) (F.arithmetic b op)
 arithmetic-leaves b op =
-    two of-arithmetic rm-reg rm-sized plain plain
-    & two of-arithmetic rm-reg rm-sized plain plain
-    & two of-arithmetic reg-rm reg-sized plain plain
-    & two of-arithmetic reg-rm reg-sized plain plain
-    & two of-arithmetic rm-digit rm-sized plain sx-word
-    & two of-arithmetic bare acc-sized plain ib-byte
-    & two of-arithmetic bare acc-sized plain iw-word
-    & two of-arithmetic rm-digit rm-sized plain ib-byte
-    & two of-arithmetic rm-digit rm-sized plain iw-word
+    two (of-two refl refl) rm-reg rm-sized plain plain
+    & two (of-two refl refl) rm-reg rm-sized plain plain
+    & two (of-two refl refl) reg-rm reg-sized plain plain
+    & two (of-two refl refl) reg-rm reg-sized plain plain
+    & two (of-two refl refl) rm-digit rm-sized plain sx-word
+    & two (of-two refl refl) bare acc-sized plain ib-byte
+    & two (of-two refl refl) bare acc-sized plain iw-word
+    & two (of-two refl refl) rm-digit rm-sized plain ib-byte
+    & two (of-two refl refl) rm-digit rm-sized plain iw-word
     & end
 
-of-unary : OfFirst G.unary (λ o. O.None)
-unfolding meant
-of-unary = record { size = λ a b o. refl; meaning = λ op a b. refl }
+unary-leaves : (n : ℕ) (op : Operation) → All (Leaf G.Unary op) (F.unary n op)
+unary-leaves n op = own (of-first (λ a b o. refl) (λ op a b. refl)) rm-digit rm-sized plain plain & own (of-first (λ a b o. refl) (λ op a b. refl)) rm-digit rm-sized plain plain & end
 
-pub unary-leaves : (n : ℕ) (op : Operation) → All (Leaf G.unary op) (F.unary n op)
-unary-leaves n op = own of-unary rm-digit rm-sized plain plain & own of-unary rm-digit rm-sized plain plain & end
-
-of-incDec : OfFirst G.incDec (λ o. O.None)
-unfolding meant
-of-incDec = record { size = λ a b o. refl; meaning = λ op a b. refl }
-
-pub incDec-leaves : (n : ℕ) (op : Operation) → All (Leaf G.incDec op) (F.incDec n op)
+incDec-leaves : (n : ℕ) (op : Operation) → All (Leaf G.IncDec op) (F.incDec n op)
 incDec-leaves n op =
     let e : (0x40 + 8 * n) % 8 ≡ 0 = omega arith in
-    own of-incDec (low3-first e) low3-sized plain plain
-    & own of-incDec rm-digit rm-sized plain plain
-    & own of-incDec rm-digit rm-sized plain plain
+    own (of-first (λ a b o. refl) (λ op a b. refl)) (low3-first e) low3-sized plain plain
+    & own (of-first (λ a b o. refl) (λ op a b. refl)) rm-digit rm-sized plain plain
+    & own (of-first (λ a b o. refl) (λ op a b. refl)) rm-digit rm-sized plain plain
     & end
 
-of-move : OfTwo G.move
-unfolding meant
-of-move = record { size = λ a b o. refl; meaning = λ op a b. refl }
-
-pub move-leaves : (op : Operation) → All (Leaf G.move op) (F.move op)
+move-leaves : (op : Operation) → All (Leaf G.Mov op) (F.move op)
 move-leaves op =
-    two of-move address-second acc-sized plain plain
-    & two of-move address-second acc-sized plain plain
-    & two-by-second of-move address-first acc-sized plain plain
-    & two-by-second of-move address-first acc-sized plain plain
-    & two of-move rm-reg rm-sized plain plain
-    & two of-move rm-reg rm-sized plain plain
-    & two of-move reg-rm reg-sized plain plain
-    & two of-move reg-rm reg-sized plain plain
-    & two of-move rm-reg rm-sized plain plain
-    & two-by-second of-move reg-rm rm-sized plain plain
-    & two of-move (low3-first refl) low3-sized plain ib-byte
-    & two of-move (low3-first refl) low3-sized plain iw-word
-    & two of-move rm-digit rm-sized plain ib-byte
-    & two of-move rm-digit rm-sized plain iw-word
+    two (of-two refl refl) address-second acc-sized plain plain
+    & two (of-two refl refl) address-second acc-sized plain plain
+    & two-by-second (of-two refl refl) address-first acc-sized plain plain
+    & two-by-second (of-two refl refl) address-first acc-sized plain plain
+    & two (of-two refl refl) rm-reg rm-sized plain plain
+    & two (of-two refl refl) rm-reg rm-sized plain plain
+    & two (of-two refl refl) reg-rm reg-sized plain plain
+    & two (of-two refl refl) reg-rm reg-sized plain plain
+    & two (of-two refl refl) rm-reg rm-sized plain plain
+    & two-by-second (of-two refl refl) reg-rm rm-sized plain plain
+    & two (of-two refl refl) (low3-first refl) low3-sized plain ib-byte
+    & two (of-two refl refl) (low3-first refl) low3-sized plain iw-word
+    & two (of-two refl refl) rm-digit rm-sized plain ib-byte
+    & two (of-two refl refl) rm-digit rm-sized plain iw-word
     & end
 
-of-exchange : OfTwo G.exchange
-unfolding meant
-of-exchange = record { size = λ a b o. refl; meaning = λ op a b. refl }
-
-pub exchange-leaves : (op : Operation) → All (Leaf G.exchange op) (F.exchange op)
+exchange-leaves : (op : Operation) → All (Leaf G.Xchg op) (F.exchange op)
 exchange-leaves op =
-    two of-exchange (low3-second refl) acc-sized plain plain
-    & two of-exchange reg-rm reg-sized plain plain
-    & two of-exchange reg-rm reg-sized plain plain
+    two (of-two refl refl) (low3-second refl) acc-sized plain plain
+    & two (of-two refl refl) reg-rm reg-sized plain plain
+    & two (of-two refl refl) reg-rm reg-sized plain plain
     & end
 
-of-test : OfTwo G.test
-unfolding meant
-of-test = record { size = λ a b o. refl; meaning = λ op a b. refl }
+test-leaves : (op : Operation) → All (Leaf G.Test op) (F.test op)
+test-leaves op = two (of-two refl refl) bare acc-sized plain ib-byte & end
 
-pub test-leaves : (op : Operation) → All (Leaf G.test op) (F.test op)
-test-leaves op = two of-test bare acc-sized plain ib-byte & end
-
-pub push-leaves : (op : Operation) → All (Leaf G.push op) (F.push op)
+push-leaves : (op : Operation) → All (Leaf G.Push op) (F.push op)
 unfolding meant
 push-leaves op = fixed (low3-first refl) plain plain (λ a b. refl) & fixed (segment {o = 0x06} (omega arith)) plain plain (λ a b. refl) & end
 
-pub pop-leaves : (op : Operation) → All (Leaf G.pop op) (F.pop op)
+pop-leaves : (op : Operation) → All (Leaf G.Pop op) (F.pop op)
 unfolding meant
 pop-leaves op = fixed (low3-first refl) plain plain (λ a b. refl) & fixed (segment {o = 0x07} (omega arith)) plain plain (λ a b. refl) & end
 
-pub load-leaves : (c : ℕ) (op : Operation) → All (Leaf G.load op) (F.load c op)
+load-leaves : (g : Group) → rule g .means ≡ ofAddress → (c : ℕ) (op : Operation) → All (Leaf g op) (F.load c op)
 unfolding meant
-load-leaves c op = fixed reg-rm plain plain (λ a b. refl) & end
+load-leaves g e c op = fixed {f = F.form c F./r op (reg word) F.mem} reg-rm plain plain (λ a b. rw e) & end
 
-of-shift : OfFirst G.shift count
-unfolding meant
-of-shift = record { size = λ a b o. refl; meaning = λ op a b. refl }
-
-pub shift-leaves : (n : ℕ) (op : Operation) → All (Leaf G.shift op) (F.shift n op)
+shift-leaves : (n : ℕ) (op : Operation) → All (Leaf G.Shift op) (F.shift n op)
 shift-leaves n op =
-    own of-shift rm-digit rm-sized plain one-count
-    & own of-shift rm-digit rm-sized plain one-count
-    & own of-shift rm-digit rm-sized plain CL-count
-    & own of-shift rm-digit rm-sized plain CL-count
+    own (of-first (λ a b o. refl) (λ op a b. refl)) rm-digit rm-sized plain one-count
+    & own (of-first (λ a b o. refl) (λ op a b. refl)) rm-digit rm-sized plain one-count
+    & own (of-first (λ a b o. refl) (λ op a b. refl)) rm-digit rm-sized plain CL-count
+    & own (of-first (λ a b o. refl) (λ op a b. refl)) rm-digit rm-sized plain CL-count
     & end
 
 -- CALL and JMP: near, far, through a register or memory
@@ -283,29 +265,29 @@ far-kind J.Near n f e = false-true e
 far-kind J.Short n f e = false-true e
 
 near-goes : (op : Operation) (z : OperandSize) (o : OperandData) → takes cw z o ≡ true
-    → canonical op S.Unspecified (nearTarget o) O.None ≡ transfer op o
+    → canonical op S.Unspecified (nearTarget o) O.None ≡ ofTransfer op o o
 near-goes op z o e = let k = imm-taken (o .kind) _ e in rw (k .0) (near-kind (o .«jmp_kind») _ _ (k .1))
 
 far-goes : (op : Operation) (z : OperandSize) (o : OperandData) → takes ptr z o ≡ true
-    → canonical op S.Unspecified (farTarget o) O.None ≡ transfer op o
+    → canonical op S.Unspecified (farTarget o) O.None ≡ ofTransfer op o o
 far-goes op z o e = let k = imm-taken (o .kind) _ e in rw (k .0) (far-kind (o .«jmp_kind») _ _ (k .1))
 
 through-goes : (op : Operation) (z : OperandSize) (o : OperandData) → takes rm-near z o ≡ true
-    → canonical op S.Word (counted S.Word o) O.None ≡ transfer op o
+    → canonical op S.Word (counted S.Word o) O.None ≡ ofTransfer op o o
 through-goes op z o e = ⊎-elim (λ k. by-kind (inl k)) (λ k. by-kind (inr k)) (rm-taken (o .kind) _ e .0)
   where
-    by-kind : (o .kind ≡ K.Reg) ⊎ (o .kind ≡ K.Mem) → canonical op S.Word (counted S.Word o) O.None ≡ transfer op o
+    by-kind : (o .kind ≡ K.Reg) ⊎ (o .kind ≡ K.Mem) → canonical op S.Word (counted S.Word o) O.None ≡ ofTransfer op o o
     by-kind (inl k) = rw k
     by-kind (inr k) = rw k
 
-pub call-leaves : (op : Operation) → All (Leaf G.call op) (F.call op)
+call-leaves : (op : Operation) → All (Leaf G.Call op) (F.call op)
 unfolding meant
 call-leaves op =
     record { arranged = branch; operation-is = refl; means = λ a b h k. near-goes op (a .size) a h }
     & record { arranged = rm-digit; operation-is = refl; means = λ a b h k. through-goes op (a .size) a h }
     & end
 
-pub jump-leaves : (op : Operation) → All (Leaf G.jump op) (F.jump op)
+jump-leaves : (op : Operation) → All (Leaf G.Jmp op) (F.jump op)
 unfolding meant
 jump-leaves op =
     record { arranged = branch; operation-is = refl; means = λ a b h k. near-goes op (a .size) a h }
@@ -313,32 +295,24 @@ jump-leaves op =
     & record { arranged = rm-digit; operation-is = refl; means = λ a b h k. through-goes op (a .size) a h }
     & end
 
-pub conditional-leaves : (c : ℕ) (op : Operation) → All (Leaf G.conditional op) (F.short c op ∷ [])
+short-leaves : (g : Group) → rule g .means ≡ ofNear → (c : ℕ) (op : Operation) → All (Leaf g op) (F.short c op ∷ [])
 unfolding meant
-conditional-leaves c op = fixed branch plain plain (λ a b. refl) & end
+short-leaves g e c op = fixed {f = F.short c op} branch plain plain (λ a b. rw e) & end
 
-pub loop-leaves : (c : ℕ) (op : Operation) → All (Leaf G.loop op) (F.short c op ∷ [])
-unfolding meant
-loop-leaves c op = fixed branch plain plain (λ a b. refl) & end
-
-pub interrupt-leaves : (op : Operation) → All (Leaf G.interrupt op) (F.interrupt op)
+interrupt-leaves : (op : Operation) → All (Leaf G.Int op) (F.interrupt op)
 unfolding meant
 interrupt-leaves op = fixed bare plain plain (λ a b. refl) & end
 
-pub translate-leaves : (op : Operation) → All (Leaf G.translate op) (F.translate op)
+translate-leaves : (op : Operation) → All (Leaf G.Xlat op) (F.translate op)
 unfolding meant
 translate-leaves op = fixed bx-al plain plain (λ a b. refl) & end
 
-of-input : OfFirst G.input port
-unfolding meant
-of-input = record { size = λ a b o. refl; meaning = λ op a b. refl }
-
-pub input-leaves : (op : Operation) → All (Leaf G.input op) (F.input op)
+input-leaves : (op : Operation) → All (Leaf G.In op) (F.input op)
 input-leaves op =
-    own of-input bare acc-sized plain ib-port
-    & own of-input bare acc-sized plain ib-port
-    & own of-input bare acc-sized plain DX-port
-    & own of-input bare acc-sized plain DX-port
+    own (of-first (λ a b o. refl) (λ op a b. refl)) bare acc-sized plain ib-port
+    & own (of-first (λ a b o. refl) (λ op a b. refl)) bare acc-sized plain ib-port
+    & own (of-first (λ a b o. refl) (λ op a b. refl)) bare acc-sized plain DX-port
+    & own (of-first (λ a b o. refl) (λ op a b. refl)) bare acc-sized plain DX-port
     & end
 
 -- OUT: of the second operand's size
@@ -347,7 +321,7 @@ out : (op : Operation) (w : OperandSize) (s : Slot) → Holds s port → (a b : 
     → canonical op w (holds s a) (counted w b) ≡ canonical op (b .size) (port a) (counted (b .size) b)
 out op w s p a b h k = let e : b .size ≡ w = acc-sized {w = w} .sized (b .size) b k in rw (p .are _ a h, e)
 
-pub output-leaves : (op : Operation) → All (Leaf G.output op) (F.output op)
+output-leaves : (op : Operation) → All (Leaf G.Out op) (F.output op)
 unfolding meant
 output-leaves op =
     record { arranged = bare; operation-is = refl; means = out op byte ib ib-port }
@@ -356,17 +330,42 @@ output-leaves op =
     & record { arranged = bare; operation-is = refl; means = out op word DX DX-port }
     & end
 
-pub adjust-leaves : (c : ℕ) (op : Operation) → All (Leaf G.plain op) (F.adjust c op)
+adjust-leaves : (g : Group) → rule g .means ≡ ofNone → (c : ℕ) (op : Operation) → All (Leaf g op) (F.adjust c op)
 unfolding meant
-adjust-leaves c op = fixed adjust plain plain (λ a b. refl) & end
+adjust-leaves g e c op = fixed {f = F.form c F.0A op F.nil F.nil} adjust plain plain (λ a b. rw e) & end
 
-pub plain-leaves : (c : ℕ) (op : Operation) → All (Leaf G.plain op) (F.single c op ∷ [])
+single-leaves : (g : Group) → rule g .means ≡ ofNone → (c : ℕ) (op : Operation) → All (Leaf g op) (F.single c op ∷ [])
 unfolding meant
-plain-leaves c op = fixed bare plain plain (λ a b. refl) & end
+single-leaves g e c op = fixed {f = F.single c op} bare plain plain (λ a b. rw e) & end
 
-pub return-leaves : (c : ℕ) (op : Operation) → All (Leaf G.return op) (F.single c op ∷ [])
-unfolding meant
-return-leaves c op = fixed bare plain plain (λ a b. refl) & end
+-- every group
+pub leaves : (g : Group) (n : ℕ) (op : Operation) → All (Leaf g op) (block g n op)
+unfolding block
+leaves G.Arithmetic n op = arithmetic-leaves n op
+leaves G.Unary n op = unary-leaves n op
+leaves G.Mov n op = move-leaves op
+leaves G.Test n op = test-leaves op
+leaves G.Xchg n op = exchange-leaves op
+leaves G.IncDec n op = incDec-leaves n op
+leaves G.Push n op = push-leaves op
+leaves G.Pop n op = pop-leaves op
+leaves G.Ret n op = single-leaves G.Ret refl 0xC3 op
+leaves G.Lea n op = load-leaves G.Lea refl n op
+leaves G.LesLds n op = load-leaves G.LesLds refl n op
+leaves G.Shift n op = shift-leaves n op
+leaves G.Call n op = call-leaves op
+leaves G.Jmp n op = jump-leaves op
+leaves G.Jcc n op = short-leaves G.Jcc refl n op
+leaves G.Loopc n op = short-leaves G.Loopc refl n op
+leaves G.NoOperands n op = single-leaves G.NoOperands refl n op
+leaves G.Prefixes n op = single-leaves G.Prefixes refl n op
+leaves G.Int n op = interrupt-leaves op
+leaves G.Aam n op = adjust-leaves G.Aam refl 0xD4 op
+leaves G.Aad n op = adjust-leaves G.Aad refl 0xD5 op
+leaves G.Xlat n op = translate-leaves op
+leaves G.In n op = input-leaves op
+leaves G.Out n op = output-leaves op
+leaves G.Unsupported n op = end
 
 -- ---- XCHG with the operands the other way round
 -- of two registers it makes no difference which stands first
@@ -382,23 +381,24 @@ both-swap true false = refl
 both-swap false true = refl
 both-swap false false = refl
 
-registers-swap : (z : OperandSize) (m n : ℕ) → canonical Op.XCHG z (O.Register m) (O.Register n) ≡ canonical Op.XCHG z (O.Register n) (O.Register m)
-unfolding canonical numberOf
-registers-swap z m n =
+registers-swap : (op : Operation) → symmetric op ≡ true → (z : OperandSize) (m n : ℕ)
+    → canonical op z (O.Register m) (O.Register n) ≡ canonical op z (O.Register n) (O.Register m)
+unfolding canonical
+registers-swap op h z m n =
     let a = O.Register m in
     let b = O.Register n in
-    rw (both-swap (eqb m 0) (eqb n 0), pick-order m n (instruction Op.XCHG z a b) (instruction Op.XCHG z b a) (ltb n m) (ltb m n) (λ e. rw e) refl refl)
+    rw (h, both-swap (eqb m 0) (eqb n 0), pick-order m n (instruction op z a b) (instruction op z b a) (ltb n m) (ltb m n) (λ e. rw e) refl refl)
 
-memory-swap : (z : OperandSize) (m v d : ℕ) (g : Segment)
-    → canonical Op.XCHG z (O.Register m) (O.Memory v d g) ≡ canonical Op.XCHG z (O.Memory v d g) (O.Register m)
-unfolding canonical numberOf
-memory-swap z m v d g = refl
+memory-swap : (op : Operation) → symmetric op ≡ true → (z : OperandSize) (m v d : ℕ) (g : Segment)
+    → canonical op z (O.Register m) (O.Memory v d g) ≡ canonical op z (O.Memory v d g) (O.Register m)
+unfolding canonical
+memory-swap op h z m v d g = rw h
 
-swap : (z : OperandSize) (a b : OperandData) → b .kind ≡ K.Reg → (a .kind ≡ K.Reg) ⊎ (a .kind ≡ K.Mem)
-    → canonical Op.XCHG z (counted z b) (counted z a) ≡ canonical Op.XCHG z (counted z a) (counted z b)
+swap : (op : Operation) → symmetric op ≡ true → (z : OperandSize) (a b : OperandData) → b .kind ≡ K.Reg → (a .kind ≡ K.Reg) ⊎ (a .kind ≡ K.Mem)
+    → canonical op z (counted z b) (counted z a) ≡ canonical op z (counted z a) (counted z b)
 unfolding counted
-swap z a b k (inl l) = rw (k, l) (registers-swap z (b .rm) (a .rm))
-swap z a b k (inr l) = rw (k, l) (memory-swap z (b .rm) _ _ _)
+swap op h z a b k (inl l) = rw (k, l) (registers-swap op h z (b .rm) (a .rm))
+swap op h z a b k (inr l) = rw (k, l) (memory-swap op h z (b .rm) _ _ _)
 
 -- a form of XCHG, crossed
 pub record Crosses (g : Group) (op : Operation) (f : Form) : Type 0 where
@@ -412,18 +412,47 @@ record TakesRegister (s : Slot) : Type 0 where
 record TakesEither (s : Slot) : Type 0 where
   pub kind : (z : OperandSize) (o : OperandData) → takes s z o ≡ true → (o .kind ≡ K.Reg) ⊎ (o .kind ≡ K.Mem)
 
-cross : {f : Form} → Sized (f .first) (widthOf f) → Holds (f .first) (counted (widthOf f)) → Holds (f .second) (counted (widthOf f))
-    → TakesRegister (f .first) → TakesEither (f .second) → Crosses G.exchange Op.XCHG f
+cross : {op : Operation} {f : Form} → symmetric op ≡ true → Sized (f .first) (widthOf f) → Holds (f .first) (counted (widthOf f))
+    → Holds (f .second) (counted (widthOf f)) → TakesRegister (f .first) → TakesEither (f .second) → Crosses G.Xchg op f
 unfolding meant
-cross l p q x y = record {
+cross {op} s l p q x y = record {
   crossed = λ a b h k.
       let z = statedOf (a .size) (b .size) in
-      rw (p .are z b h, q .are z a k, ← (l .sized z b h)) (swap z a b (x .kind z b h) (y .kind z a k));
+      rw (p .are z b h, q .are z a k, ← (l .sized z b h)) (swap op s z a b (x .kind z b h) (y .kind z a k));
 }
 
-pub exchange-crosses : All (Crosses G.exchange Op.XCHG) (F.exchange Op.XCHG)
-exchange-crosses =
-    cross acc-sized plain plain (record { kind = λ z o e. reg-taken (o .kind) _ e .0 }) (record { kind = λ z o e. inl (reg-taken (o .kind) _ e .0) })
-    & cross reg-sized plain plain (record { kind = λ z o e. reg-taken (o .kind) _ e .0 }) (record { kind = λ z o e. rm-taken (o .kind) _ e .0 })
-    & cross reg-sized plain plain (record { kind = λ z o e. reg-taken (o .kind) _ e .0 }) (record { kind = λ z o e. rm-taken (o .kind) _ e .0 })
+exchange-crosses : (op : Operation) → symmetric op ≡ true → All (Crosses G.Xchg op) (F.exchange op)
+exchange-crosses op s =
+    cross s acc-sized plain plain (record { kind = λ z o e. reg-taken (o .kind) _ e .0 }) (record { kind = λ z o e. inl (reg-taken (o .kind) _ e .0) })
+    & cross s reg-sized plain plain (record { kind = λ z o e. reg-taken (o .kind) _ e .0 }) (record { kind = λ z o e. rm-taken (o .kind) _ e .0 })
+    & cross s reg-sized plain plain (record { kind = λ z o e. reg-taken (o .kind) _ e .0 }) (record { kind = λ z o e. rm-taken (o .kind) _ e .0 })
     & end
+
+-- every group whose operands have no first and second
+pub crosses : (g : Group) (n : ℕ) (op : Operation) → symmetric op ≡ true → eitherWay g ≡ true → All (Crosses g op) (block g n op)
+unfolding block
+crosses G.Arithmetic n op s e = false-true e
+crosses G.Unary n op s e = false-true e
+crosses G.Mov n op s e = false-true e
+crosses G.Test n op s e = false-true e
+crosses G.Xchg n op s e = exchange-crosses op s
+crosses G.IncDec n op s e = false-true e
+crosses G.Push n op s e = false-true e
+crosses G.Pop n op s e = false-true e
+crosses G.Ret n op s e = false-true e
+crosses G.Lea n op s e = false-true e
+crosses G.LesLds n op s e = false-true e
+crosses G.Shift n op s e = false-true e
+crosses G.Call n op s e = false-true e
+crosses G.Jmp n op s e = false-true e
+crosses G.Jcc n op s e = false-true e
+crosses G.Loopc n op s e = false-true e
+crosses G.NoOperands n op s e = false-true e
+crosses G.Prefixes n op s e = false-true e
+crosses G.Int n op s e = false-true e
+crosses G.Aam n op s e = false-true e
+crosses G.Aad n op s e = false-true e
+crosses G.Xlat n op s e = false-true e
+crosses G.In n op s e = false-true e
+crosses G.Out n op s e = false-true e
+crosses G.Unsupported n op s e = false-true e

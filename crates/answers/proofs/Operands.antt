@@ -20,7 +20,7 @@ use Rattle.x86.specs.declared.Operand.the-variants as O
 use Rattle.x86.specs.Instructions.{base, inEffect, defaultSegment}
 use Rattle.x86.specs.Reading.{displacementLength, displacementAt}
 use Rattle.answers.specs.WellFormed.{all, bytesOf, isPrefix, displacementIn, displacementFits, wellFormed}
-use Rattle.answers.specs.Meaning.{counted}
+use Rattle.answers.specs.Operands.{counted}
 use Rattle.answers.specs.Layout.{displacementBytes}
 use Rattle.answers.proofs.Values.{either-right, false-true, both-true, inSize, size-back, size-length}
 

@@ -24,8 +24,8 @@ use Rattle.x86.specs.Reading as R
 use Rattle.x86.specs.Listing.{Bytes}
 use Rattle.answers.specs.WellFormed.{bytesOf, isPrefix, wellFormed}
 use Rattle.answers.specs.Records.{sameSize}
-use Rattle.answers.specs.Groups.{Group}
-use Rattle.answers.specs.Meaning.{counted}
+use Rattle.groups.specs.declared.Group.{Group}
+use Rattle.answers.specs.Operands.{counted}
 use Rattle.answers.specs.Choice.{takes}
 use Rattle.answers.specs.Layout.{wordOf, displacementBytes, Part, nothing, inRm, inReg, inOpcode, behindOpcode, part}
 use Rattle.answers.specs.Limits.{Asked, ofSlot, shortDistance}

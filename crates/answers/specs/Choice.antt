@@ -9,29 +9,15 @@ use Rattle.mrc_compiler.specs.declared.encoder.OperandData.{OperandData}
 use Rattle.mrc_compiler.specs.declared.encoder.OperandSize.{OperandSize}
 use Rattle.mrc_compiler.specs.declared.operations.Operation.{Operation}
 use Rattle.mrc_compiler.specs.Builders.{isDirectAddress}
-use Rattle.mrc_compiler.specs.Choose.{pick, both, isnt, bySize, byKind, byJump}
+use Rattle.mrc_compiler.specs.Choose.{pick, both, isnt, bySize, byJump}
 use Rattle.mrc_compiler.specs.Operations.{sameOperation}
 use Rattle.mrc_compiler.specs.Values.{within}
 use Rattle.x86.specs.Forms.{Slot, rm, rm-near, mem, reg, sreg, sreg-not-cs, acc, low3, bits34, bits34-not-cs, CL, DX, one, moffs, xlat, ib, iw, ib-sx, cb, cw, ptr, nil, Form, forms}
 use Rattle.x86.specs.Reading.{keep}
 use Rattle.answers.specs.Records.{sameSize, statedOf}
-use Rattle.answers.specs.Groups.{Group, arithmetic, unary, incDec, move, exchange, test, push, pop, load, shift, call, jump, conditional, loop, interrupt, translate, input, output, return, plain, unsupported}
-
--- an operand of this kind that passes the test
-abbrev pub ifImm : OperandData → Bool → Bool
-ifImm o t = byKind (o .kind) t false false false
-
-abbrev pub ifReg : OperandData → Bool → Bool
-ifReg o t = byKind (o .kind) false t false false
-
-abbrev pub ifSeg : OperandData → Bool → Bool
-ifSeg o t = byKind (o .kind) false false t false
-
-abbrev pub ifMem : OperandData → Bool → Bool
-ifMem o t = byKind (o .kind) false false false t
-
-abbrev pub ifRm : OperandData → Bool → Bool
-ifRm o t = byKind (o .kind) false t false t
+use Rattle.groups.specs.declared.Group.{Group}
+use Rattle.answers.specs.Operands.{ifImm, ifReg, ifSeg, ifMem, ifRm}
+use Rattle.answers.specs.Rules.{Sizing, unasked, either-states, first-states, first-is-word, Special, ordinary, unordered, without-operands, target-first, not-supported, rule}
 
 -- does a slot take the operand o, which counts with the size s?
 abbrev pub takes : Slot → OperandSize → OperandData → Bool
@@ -58,29 +44,15 @@ takes cw s o = ifImm o (byJump (o .«jmp_kind») true false true false)
 takes ptr s o = ifImm o (byJump (o .«jmp_kind») false true false false)
 takes nil s o = true
 
--- the size with which an operand o of the operands a and b counts: in some groups the one that either states, else its own
+-- the size with which an operand o of the operands a and b counts: the one that either states where the group asks for that, else its own
+abbrev pub sizeBy : Sizing → OperandData → OperandData → OperandData → OperandSize
+sizeBy unasked a b o = o .size
+sizeBy either-states a b o = statedOf (a .size) (b .size)
+sizeBy (first-states why at) a b o = o .size
+sizeBy first-is-word a b o = o .size
+
 abbrev pub sizeIn : Group → OperandData → OperandData → OperandData → OperandSize
-sizeIn arithmetic a b o = statedOf (a .size) (b .size)
-sizeIn unary a b o = o .size
-sizeIn incDec a b o = o .size
-sizeIn move a b o = statedOf (a .size) (b .size)
-sizeIn exchange a b o = statedOf (a .size) (b .size)
-sizeIn test a b o = statedOf (a .size) (b .size)
-sizeIn push a b o = o .size
-sizeIn pop a b o = o .size
-sizeIn load a b o = o .size
-sizeIn shift a b o = o .size
-sizeIn call a b o = o .size
-sizeIn jump a b o = o .size
-sizeIn conditional a b o = o .size
-sizeIn loop a b o = o .size
-sizeIn interrupt a b o = o .size
-sizeIn translate a b o = o .size
-sizeIn input a b o = o .size
-sizeIn output a b o = o .size
-sizeIn return a b o = o .size
-sizeIn plain a b o = o .size
-sizeIn unsupported a b o = o .size
+sizeIn g a b o = sizeBy (rule g .sizing) a b o
 
 -- no form, or a form with the operands in its slots as the record has them, or the other way round
 pub data Choice : Type 0 where
@@ -97,32 +69,29 @@ choose either-way (f ∷ fs) s a t b =
     (choose either-way fs s a t b))
 
 -- only RET looks at the count: it has the form without operands at 0
-abbrev pub countTaken : Group → ℕ → Bool
-countTaken arithmetic k = true
-countTaken unary k = true
-countTaken incDec k = true
-countTaken move k = true
-countTaken exchange k = true
-countTaken test k = true
-countTaken push k = true
-countTaken pop k = true
-countTaken load k = true
-countTaken shift k = true
-countTaken call k = true
-countTaken jump k = true
-countTaken conditional k = true
-countTaken loop k = true
-countTaken interrupt k = true
-countTaken translate k = true
-countTaken input k = true
-countTaken output k = true
-countTaken return k = eqb k 0
-countTaken plain k = true
-countTaken unsupported k = true
+abbrev pub countBy : Special → ℕ → Bool
+countBy ordinary k = true
+countBy unordered k = true
+countBy without-operands k = eqb k 0
+countBy target-first k = true
+countBy not-supported k = true
 
--- the form of a group that takes a record with count k and operands a and b
-abbrev pub choice : Group → Bool → List Form → ℕ → OperandData → OperandData → Choice
-choice g either-way fs k a b = pick (countTaken g k) (choose either-way fs (sizeIn g a b a) a (sizeIn g a b b) b) none
+abbrev pub countTaken : Group → ℕ → Bool
+countTaken g k = countBy (rule g .special) k
+
+abbrev pub isUnordered : Special → Bool
+isUnordered ordinary = false
+isUnordered unordered = true
+isUnordered without-operands = false
+isUnordered target-first = false
+isUnordered not-supported = false
+
+abbrev pub eitherWay : Group → Bool
+eitherWay g = isUnordered (rule g .special)
+
+-- the form of a group, out of these, that takes a record with count k and operands a and b
+abbrev pub choice : Group → List Form → ℕ → OperandData → OperandData → Choice
+choice g fs k a b = pick (countTaken g k) (choose (eitherWay g) fs (sizeIn g a b a) a (sizeIn g a b b) b) none
 
 -- the forms of an operation
 unfoldable pub formsOf : Operation → List Form

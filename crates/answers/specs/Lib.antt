@@ -1,8 +1,10 @@
 pub mod Records
 pub mod WellFormed
-pub mod Groups
+pub mod Operands
+pub mod Rules
 pub mod Meaning
 pub mod Choice
+pub mod Blocks
 pub mod Layout
 pub mod Limits
 pub mod Questions

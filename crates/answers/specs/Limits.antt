@@ -13,7 +13,9 @@ use Rattle.mrc_compiler.specs.Values.{within}
 use Rattle.values.specs.Distances.{distanceOf, wrapped}
 use Rattle.x86.specs.Forms.{Slot, rm, rm-near, mem, reg, sreg, sreg-not-cs, acc, low3, bits34, bits34-not-cs, CL, DX, one, moffs, xlat, ib, iw, ib-sx, cb, cw, ptr, nil, Form}
 use Rattle.x86.specs.Reading.{about, somewhere}
-use Rattle.answers.specs.Groups.{Group, arithmetic, unary, incDec, move, exchange, test, push, pop, load, shift, call, jump, conditional, loop, interrupt, translate, input, output, return, plain, unsupported}
+use Rattle.groups.specs.declared.Group.{Group}
+use Rattle.answers.specs.Rules.{Immediate, number, number-stored, rule}
+use Rattle.answers.specs.Rules as R
 
 -- what an immediate is
 pub data Kind : Type 0 where
@@ -49,51 +51,23 @@ limits target = to (pos 0) (pos 65535)
 limits segment = to (pos 0) (pos 65535)
 
 -- what the immediate byte of a group's form is, and its immediate word; memory says whether the form's first slot may be memory
+abbrev pub byteBy : Immediate → Bool → Kind
+byteBy number memory = data-byte
+byteBy number-stored memory = pick memory memory-byte data-byte
+byteBy R.vector memory = vector
+byteBy R.port memory = port
+
+abbrev pub wordBy : Immediate → Bool → Kind
+wordBy number memory = data-word
+wordBy number-stored memory = pick memory memory-word data-word
+wordBy R.vector memory = vector
+wordBy R.port memory = port
+
 abbrev pub byteKind : Group → Bool → Kind
-byteKind arithmetic memory = data-byte
-byteKind unary memory = data-byte
-byteKind incDec memory = data-byte
-byteKind move memory = pick memory memory-byte data-byte
-byteKind exchange memory = data-byte
-byteKind test memory = data-byte
-byteKind push memory = data-byte
-byteKind pop memory = data-byte
-byteKind load memory = data-byte
-byteKind shift memory = data-byte
-byteKind call memory = data-byte
-byteKind jump memory = data-byte
-byteKind conditional memory = data-byte
-byteKind loop memory = data-byte
-byteKind interrupt memory = vector
-byteKind translate memory = data-byte
-byteKind input memory = port
-byteKind output memory = port
-byteKind return memory = data-byte
-byteKind plain memory = data-byte
-byteKind unsupported memory = data-byte
+byteKind g memory = byteBy (rule g .immediate) memory
 
 abbrev pub wordKind : Group → Bool → Kind
-wordKind arithmetic memory = data-word
-wordKind unary memory = data-word
-wordKind incDec memory = data-word
-wordKind move memory = pick memory memory-word data-word
-wordKind exchange memory = data-word
-wordKind test memory = data-word
-wordKind push memory = data-word
-wordKind pop memory = data-word
-wordKind load memory = data-word
-wordKind shift memory = data-word
-wordKind call memory = data-word
-wordKind jump memory = data-word
-wordKind conditional memory = data-word
-wordKind loop memory = data-word
-wordKind interrupt memory = vector
-wordKind translate memory = data-word
-wordKind input memory = port
-wordKind output memory = port
-wordKind return memory = data-word
-wordKind plain memory = data-word
-wordKind unsupported memory = data-word
+wordKind g memory = wordBy (rule g .immediate) memory
 
 -- one thing asked: is the answer yes, and the refusal where it is no
 pub record Asked : Type 0 where

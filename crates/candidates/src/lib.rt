@@ -1,8 +1,9 @@
 // The twelve candidates of an instruction's listing, each as a run of bytes.
 ghost use mathlib.Core.Path.{_≡_};
 ghost use Prim.Native.Nat.{_%_, _/_, _≤_};
+ghost use Rattle.answers.specs.Layout.{wordBytes, prefixBytes};
 ghost use Rattle.emitter.specs.Run.{emptyRun, appended};
-ghost use Rattle.listing.specs.Operands.{prefixIn, displacementIn, valueIn, farSegmentIn, prefixOf, displacementOf, valueOf, farSegmentOf};
+ghost use Rattle.listing.specs.Operands.{prefixIn, prefixOf, displacementOf, valueOf, farSegmentOf};
 ghost use Rattle.listing.specs.Candidates.{byteOf, displacementBytes, secondBytes, distance, tailBytes, stringOf, candidate};
 use emitter::ByteRun;
 use listing::Second;
@@ -11,6 +12,9 @@ use listing::Tail;
 use mrc_compiler::encoder::segment_prefix_for;
 use x86::Instruction;
 use x86::Operand;
+use x86::operands::displacement_in;
+use x86::operands::far_segment_in;
+use x86::operands::value_in;
 
 // ---- the numbers of an instruction
 
@@ -30,55 +34,8 @@ pub fn prefix_in(oper: Operand) -> u8
     }
 }
 
-pub fn displacement_in(oper: Operand) -> u16
-    ensures { λ r. ⌜ r ≡ displacementIn oper ⌝ }
-{
-    match oper {
-        Operand::None => 0,
-        Operand::Register(_) => 0,
-        Operand::SegmentRegister(_) => 0,
-        Operand::Memory(_, d, _) => d,
-        Operand::Immediate(_) => 0,
-        Operand::Near(_) => 0,
-        Operand::Far(_, _) => 0,
-        Operand::One => 0,
-    }
-}
-
-// An immediate, or a target's offset.
-pub fn value_in(oper: Operand) -> u16
-    ensures { λ r. ⌜ r ≡ valueIn oper ⌝ }
-{
-    match oper {
-        Operand::None => 0,
-        Operand::Register(_) => 0,
-        Operand::SegmentRegister(_) => 0,
-        Operand::Memory(_, _, _) => 0,
-        Operand::Immediate(v) => v,
-        Operand::Near(t) => t,
-        Operand::Far(t, _) => t,
-        Operand::One => 0,
-    }
-}
-
-// A far target's segment.
-pub fn far_segment_in(oper: Operand) -> u16
-    ensures { λ r. ⌜ r ≡ farSegmentIn oper ⌝ }
-{
-    match oper {
-        Operand::None => 0,
-        Operand::Register(_) => 0,
-        Operand::SegmentRegister(_) => 0,
-        Operand::Memory(_, _, _) => 0,
-        Operand::Immediate(_) => 0,
-        Operand::Near(_) => 0,
-        Operand::Far(_, s) => s,
-        Operand::One => 0,
-    }
-}
-
 // The sum is the number of the operand that has one.
-fn prefix_of(insn: Instruction) -> u8
+pub fn prefix_of(insn: Instruction) -> u8
     ensures { λ r. ⌜ r ≡ prefixOf insn ⌝ }
 {
     let a = insn.first;
@@ -112,6 +69,25 @@ fn far_segment_of(insn: Instruction) -> u16
 
 // ---- the bytes
 
+// A word, low byte first.
+fn push_word(run: ByteRun, value: u16) -> ByteRun
+    ensures { λ r. ⌜ r ≡ appended run (wordBytes value) ⌝ }
+{
+    let first = emitter::push(run, (value % 256) as u8);
+    emitter::push(first, (value / 256) as u8)
+}
+
+// The prefix of a segment; 0 means none.
+fn push_prefix(run: ByteRun, prefix: u8) -> ByteRun
+    ensures { λ r. ⌜ r ≡ appended run (prefixBytes prefix) ⌝ }
+{
+    if prefix == 0 {
+        run
+    } else {
+        emitter::push(run, prefix)
+    }
+}
+
 // A displacement of n bytes.
 fn push_displacement(run: ByteRun, n: u8, displacement: u16) -> ByteRun
     ensures { λ r. ⌜ r ≡ appended run (displacementBytes n displacement) ⌝ }
@@ -122,7 +98,7 @@ fn push_displacement(run: ByteRun, n: u8, displacement: u16) -> ByteRun
     if n == 1 {
         return emitter::push(run, (displacement % 256) as u8);
     }
-    emit::push_word(run, displacement)
+    push_word(run, displacement)
 }
 
 // The second byte, with the displacement where it is ModRM.
@@ -161,20 +137,20 @@ fn push_tail(
     match tail {
         Tail::None => run,
         Tail::Byte => emitter::push(run, (value % 256) as u8),
-        Tail::Word => emit::push_word(run, value),
+        Tail::Word => push_word(run, value),
         Tail::Near8 => {
             let d = distance_from(value, offset, 2);
             emitter::push(run, (d % 256) as u8)
         }
         Tail::Near16 => {
             let d = distance_from(value, offset, 3);
-            emit::push_word(run, d)
+            push_word(run, d)
         }
         Tail::Far => {
-            let next = emit::push_word(run, value);
-            emit::push_word(next, segment)
+            let next = push_word(run, value);
+            push_word(next, segment)
         }
-        Tail::Address => emit::push_word(run, displacement),
+        Tail::Address => push_word(run, displacement),
     }
 }
 
@@ -192,7 +168,7 @@ fn string_run(offset: u16, prefix: u8, start: Start, insn: Instruction) -> ByteR
     let second = start.second;
     let tail = start.tail;
     let displacement = displacement_of(insn);
-    let prefixed = emit::emit_segment_prefix(emitter::empty_run(), prefix);
+    let prefixed = push_prefix(emitter::empty_run(), prefix);
     let coded = push_opcode(prefixed, opcode);
     let moded = push_second(coded, second, displacement);
     push_tail(

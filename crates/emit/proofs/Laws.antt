@@ -1,7 +1,7 @@
 -- Laws of what is emitted. A local holds bits, so what the code reads of an i32 z is `toZ w32 (ofZ w32 z)`.
 -- Assumes nothing.
 use mathlib.Core.Path.{_≡_, refl, sym, ap, _∙_, subst}
-use mathlib.Core.Bool.{Bool, true, false}
+use mathlib.Core.Bool.{Bool, true, false, not}
 use mathlib.Core.List.{List, [], _∷_, _++_}
 use Prim.Native.Nat.{ℕ, zero, suc, _+_, _<_}
 use native.Mathlib.Numerals.{add-one}
@@ -23,42 +23,27 @@ use Rattle.mrc_compiler.specs.Choose.{pick}
 use Rattle.mrc_compiler.specs.Values.{within, modZ}
 use Rattle.values.specs.declared.Relative.the-variants as L
 use Rattle.values.specs.Distances.{distanceOf, wrapped, relativeOf}
-use Rattle.answers.specs.Layout.{byteOf, prefixBytes, displacementBytes}
+use Rattle.answers.specs.Layout.{byteOf}
 use Rattle.answers.specs.Answer.{Answer, bytes, refused}
 use Rattle.emitter.specs.declared.ByteRun.{ByteRun}
 use Rattle.emit.specs.declared.Emitted.{Emitted}
+use Rattle.emit.specs.declared.Fields.{Fields}
+use Rattle.emit.specs.declared.Refusal.{Refusal}
 use Rattle.emit.specs.declared.Refusal.the-variants as R
-use Rattle.emitter.specs.Run.{emptyRun, pushed, appended, pushedFirst}
-use Rattle.emitter.proofs.Laws.{appended-append, filled-again}
-use Rattle.emit.specs.Emit.{emitted, isRefused, undone, ranged, relativeByte, modRmByte, modRegRm, joined, codeAnswer, codeAt, countOf, codesAnswer}
+use Rattle.emitter.specs.Run.{emptyRun, appended}
+use Rattle.emitter.proofs.Laws.{appended-append}
+use Rattle.emit.specs.Emit.{emitted, isRefused, behind, kept, fieldBytes, fieldsBytes, answerBy, answerOf, ranged, relativeByte, joined, codeAnswer, codeAt, countOf, codesAnswer, codesEmitted}
 
--- prefix, opcode, ModRM and displacement, one after the other
-pub mod-reg-rm : {r1 r2 r3 r4 : ByteRun} {m : ℕ} (run : ByteRun) (op : ℕ) (rm : OperandData) (reg : ℕ)
-    → r1 ≡ appended run (prefixBytes (rm .«segment_prefix»)) → r2 ≡ pushed r1 op → m ≡ modRmByte (rm .mode) reg (rm .rm) → r3 ≡ pushed r2 m
-    → r4 ≡ appended r3 (displacementBytes rm)
-    → r4 ≡ appended run (modRegRm op rm reg)
-unfolding modRegRm
-mod-reg-rm run op rm reg h1 h2 hm h3 h4 = rw (appended-append run (prefixBytes (rm .«segment_prefix»))) (cc)
-
--- prefix and opcode
-pub prefixed-byte : {p q : ByteRun} {r : Emitted} (run : ByteRun) (prefix op : ℕ)
-    → p ≡ appended run (prefixBytes prefix) → q ≡ pushed p op → r ≡ emitted q (bytes [])
-    → r ≡ emitted run (bytes (prefixBytes prefix ++ (op ∷ [])))
-prefixed-byte run prefix op h1 h2 h3 = rw (appended-append run (prefixBytes prefix)) (cc)
-
--- ---- a value in its limits or not: t is what the test answered, bs gives the value's bytes
-module _ (run : ByteRun) (low high value : ℤ) (span : Span) (bs : ℤ → List ℕ) (fl : SFits w32 low) (fh : SFits w32 high) (fv : SFits w32 value) {t : Bool}
+-- ---- a value in its limits or not: t is what the test answered, x the answer of the fields, bs gives the value's bytes
+module _ (low high value : ℤ) (span : Span) (bs : ℤ → List ℕ) (fl : SFits w32 low) (fh : SFits w32 high) (fv : SFits w32 value) {t : Bool}
     (e : t ≡ within (toZ w32 (ofZ w32 low)) (toZ w32 (ofZ w32 high)) (toZ w32 (ofZ w32 value))) where
   read : t ≡ within low high value
   read = rw (toZ-ofZ w32 low fl, toZ-ofZ w32 high fh, toZ-ofZ w32 value fv) at e
 
-  pub in-limits : {next : ByteRun} {r : Emitted} → t ≡ true → next ≡ appended run (bs (toZ w32 (ofZ w32 value))) → r ≡ emitted next (bytes [])
-      → r ≡ emitted run (ranged low high value span (bs value))
-  in-limits h q p = rw (sym read ∙ h, sym (rw (toZ-ofZ w32 value fv) at q)) p
+  pub in-limits : {x : Answer} → t ≡ true → x ≡ bytes (bs (toZ w32 (ofZ w32 value))) → x ≡ ranged low high value span (bs value)
+  in-limits h q = rw (sym read ∙ h) (rw (toZ-ofZ w32 value fv) at q)
 
-  pub out-of-limits : {r : Emitted} → t ≡ false
-      → r ≡ emitted run (refused (E.ImmediateOutOfRange span (toZ w32 (ofZ w32 value)) (toZ w32 (ofZ w32 low)) (toZ w32 (ofZ w32 high))))
-      → r ≡ emitted run (ranged low high value span (bs value))
+  pub out-of-limits : {x : Answer} → t ≡ false → x ≡ refused (E.ImmediateOutOfRange span (toZ w32 (ofZ w32 value)) (toZ w32 (ofZ w32 low)) (toZ w32 (ofZ w32 high))) → x ≡ ranged low high value span (bs value)
   out-of-limits h p = rw (sym read ∙ h) (rw (toZ-ofZ w32 low fl, toZ-ofZ w32 high fh, toZ-ofZ w32 value fv) at p)
 
 -- ---- a distance byte or the distance refused, as relative_byte answered
@@ -83,69 +68,68 @@ module _ (o : OperandData) (off size : ℕ) where
       let d = distanceOf (o .imm) off size in
       far (within (negsuc 127) (pos 127) d) (modZ 256 d) (wrapped d) f (bytes (byteOf d)) (λ z. E.RelativeJumpOutOfRange (o .span) S.Byte true z) h
 
--- ---- two answers, one after the other: f is what came of the first, s of the second behind it, r of undo_refused
-pub first-refused : {f : Emitted} (run : ByteRun) (a b : Answer) → f ≡ emitted run a → isRefused (f .refusal) ≡ true → f ≡ emitted run (joined a b)
-first-refused run (refused x) b hf t = hf
-first-refused run (bytes xs) b hf t = absurd (subst T (sym (rw hf at t)) tt)
-
-pub second-undone : {f s r : Emitted} (run : ByteRun) (a b : Answer) → f ≡ emitted run a → isRefused (f .refusal) ≡ false → s ≡ emitted (f .run) b → r ≡ undone run s
-    → r ≡ emitted run (joined a b)
-second-undone run (refused x) b hf t hs hr = absurd (subst T (rw hf at t) tt)
-second-undone run (bytes xs) (refused e) hf t hs hr = rw hs at hr
-second-undone run (bytes xs) (bytes ys) hf t hs hr = rw (appended-append run xs ys) (rw (hs, hf) at hr)
-
 -- ---- the codes of a list, one after the other
--- the first n of them
-abbrev pub firstCodes : Codes → InstructionData → ℕ → ℕ → Answer
-firstCodes codes insn off zero = bytes []
-firstCodes codes insn off (suc i) = joined (firstCodes codes insn off i) (codeAnswer (codeAt codes i) insn off)
+-- four fields, one after the other
+pub four-fields : (run : ByteRun) (f : Fields) → appended (appended (appended (appended run (fieldBytes (f .prefix))) (fieldBytes (f .opcode))) (fieldBytes (f .modrm))) (fieldBytes (f .value)) ≡ appended run (fieldsBytes f)
+four-fields run f = rw (appended-append run (fieldBytes (f .prefix)), appended-append (appended run (fieldBytes (f .prefix))) (fieldBytes (f .opcode)), appended-append (appended (appended run (fieldBytes (f .prefix))) (fieldBytes (f .opcode))) (fieldBytes (f .modrm)))
 
-nothing-first : (a : Answer) → joined (bytes []) a ≡ a
-nothing-first (bytes xs) = refl
-nothing-first (refused e) = refl
+-- an answer behind what was not refused: refused, then accepted
+then-refused : (e : Emitted) (r : Refusal) (bs : List ℕ) → isRefused (e .refusal) ≡ false → T (isRefused r) → behind e (answerBy r bs) ≡ record { refusal = r; run = e .run }
+then-refused e R.None bs q h = absurd h
+then-refused e (R.Because x) bs q h = rw q
 
-module _ (codes : Codes) (insn : InstructionData) (off : ℕ) where
-  -- all of them
-  pub all-codes : firstCodes codes insn off (countOf codes) ≡ codesAnswer codes insn off
+then-accepted : (e : Emitted) (r : Refusal) (bs : List ℕ) → isRefused (e .refusal) ≡ false → T (not (isRefused r)) → behind e (answerBy r bs) ≡ record { refusal = R.None; run = appended (e .run) bs }
+then-accepted e R.None bs q h = rw q
+then-accepted e (R.Because x) bs q h = absurd h
+
+none-is : (r : Refusal) → isRefused r ≡ false → r ≡ R.None
+none-is R.None h = refl
+none-is (R.Because x) h = absurd (subst T h tt)
+
+refused-is : (r : Refusal) → T (isRefused r) → isRefused r ≡ true
+refused-is R.None h = absurd h
+refused-is (R.Because x) h = refl
+
+module _ (run : ByteRun) (codes : Codes) (insn : InstructionData) (off : ℕ) where
+  -- what the first n of them leave
+  abbrev pub firstCodes : ℕ → Emitted
+  firstCodes zero = record { refusal = R.None; run = run }
+  firstCodes (suc i) = behind (firstCodes i) (codeAnswer (codeAt codes i) insn off)
+
+  all-codes : firstCodes (countOf codes) ≡ codesEmitted run codes insn off
   all-codes = by-count (eqb (codes .count) 1) where
-    by-count : (t : Bool) → firstCodes codes insn off (pick t 1 2) ≡ pick t (codeAnswer (codes .first) insn off) (joined (codeAnswer (codes .first) insn off) (codeAnswer (codes .second) insn off))
-    by-count true = nothing-first (codeAnswer (codes .first) insn off)
-    by-count false = rw (nothing-first (codeAnswer (codes .first) insn off))
-
-  -- what the first i codes answer, and code i by itself
-  abbrev upto : ℕ → Answer
-  upto i = firstCodes codes insn off i
-
-  abbrev code : ℕ → Answer
-  code i = codeAnswer (codeAt codes i) insn off
+    by-count : (t : Bool) → firstCodes (pick t 1 2) ≡ pick t (firstCodes 1) (firstCodes 2)
+    by-count true = refl
+    by-count false = refl
 
   -- a refusal stays, whatever follows
-  stays-refused : (i n : ℕ) (e : EncodeError) → upto (suc i) ≡ refused e → i < n → upto n ≡ refused e
-  stays-refused i zero e h l = absurd (omega arith)
-  stays-refused i (suc m) e h l = by-order (ltb i m) refl (stays-refused i m e h) where
-    by-order : (t : Bool) → ltb i m ≡ t → (i < m → upto m ≡ refused e) → upto (suc m) ≡ refused e
-    by-order true q before = rw (before (ltb-true i m q))
-    by-order false q before = let x = ltb-false i m q in let s : i ≡ m = omega arith in rw s at h
+  stays-refused : (i n : ℕ) → isRefused (firstCodes (suc i) .refusal) ≡ true → i < n → firstCodes n ≡ firstCodes (suc i)
+  stays-refused i zero h l = absurd (omega arith)
+  stays-refused i (suc m) h l = by-order (ltb i m) refl (stays-refused i m h) where
+    by-order : (t : Bool) → ltb i m ≡ t → (i < m → firstCodes m ≡ firstCodes (suc i)) → firstCodes (suc m) ≡ firstCodes (suc i)
+    by-order true q before = rw (before (ltb-true i m q), h)
+    by-order false q before = let x = ltb-false i m q in let s : i ≡ m = omega arith in rw s
 
-  -- done is what came of code i behind the run of the first i
-  pub code-accepted : {run : ByteRun} {done : Emitted} (i : ℕ) → emitted emptyRun (upto i) ≡ record { refusal = R.None; run = run } → done ≡ emitted run (code i) → isRefused (done .refusal) ≡ false
-      → emitted emptyRun (upto (i + 1)) ≡ record { refusal = R.None; run = done .run }
-  code-accepted {run} {done} i h d t = rw (add-one i) (by-cases (upto i) (code i) h d) where
-    by-cases : (a b : Answer) → emitted emptyRun a ≡ record { refusal = R.None; run = run } → done ≡ emitted run b → emitted emptyRun (joined a b) ≡ record { refusal = R.None; run = done .run }
-    by-cases a (refused e) p q = absurd (subst T (rw q at t) tt)
-    by-cases (refused e) (bytes ys) p q = absurd (subst T (ap (λ (z : Emitted). isRefused (z .refusal)) p) tt)
-    by-cases (bytes xs) (bytes ys) p q = let r = ap (λ (z : Emitted). z .run) p in rw (q, appended-append emptyRun xs ys, r)
+  -- the first i codes are not refused, and f are the fields of code i: it is accepted, or refused; and there is none left
+  pub one-more : (i : ℕ) (f : Fields) → answerOf f ≡ codeAnswer (codeAt codes i) insn off → isRefused (firstCodes i .refusal) ≡ false → T (not (isRefused (f .refusal)))
+      → firstCodes (i + 1) ≡ record { refusal = R.None; run = appended (firstCodes i .run) (fieldsBytes f) }
+  one-more i f e q t = rw (add-one i, ← e) (then-accepted (firstCodes i) (f .refusal) (fieldsBytes f) q t)
 
-  pub code-refused : {run : ByteRun} {done : Emitted} (i n : ℕ) → i < n → emitted emptyRun (upto i) ≡ record { refusal = R.None; run = run } → done ≡ emitted run (code i) → isRefused (done .refusal) ≡ true
-      → record { refusal = done .refusal; run = emptyRun } ≡ emitted emptyRun (upto n)
-  code-refused {run} {done} i n l h d t = by-cases (upto i) (code i) refl refl h d where
-    by-cases : (a b : Answer) → upto i ≡ a → code i ≡ b → emitted emptyRun a ≡ record { refusal = R.None; run = run } → done ≡ emitted run b → record { refusal = done .refusal; run = emptyRun } ≡ emitted emptyRun (upto n)
-    by-cases a (bytes ys) ea eb p q = absurd (subst T (sym (rw q at t)) tt)
-    by-cases (refused x) (refused e) ea eb p q = absurd (subst T (ap (λ (z : Emitted). isRefused (z .refusal)) p) tt)
-    by-cases (bytes xs) (refused e) ea eb p q = rw (stays-refused i n e (rw (ea, eb)) l, q)
+  pub stopped : (i : ℕ) (f : Fields) → answerOf f ≡ codeAnswer (codeAt codes i) insn off → isRefused (firstCodes i .refusal) ≡ false → T (isRefused (f .refusal)) → i < countOf codes
+      → record { refusal = f .refusal; run = firstCodes i .run } ≡ codesEmitted run codes insn off
+  stopped i f e q t l =
+      let x : firstCodes (suc i) ≡ record { refusal = f .refusal; run = firstCodes i .run } = rw (← e) (then-refused (firstCodes i) (f .refusal) (fieldsBytes f) q t) in
+      sym x ∙ sym (stays-refused i (countOf codes) (ap (λ (z : Emitted). isRefused (z .refusal)) x ∙ refused-is (f .refusal) t) l) ∙ all-codes
 
--- ---- the core's run, filled again by the emitter
-pub core-emitted : {core : Emitted} {run : ByteRun} (a : Answer) → core ≡ emitted emptyRun a → run ≡ pushedFirst emptyRun (core .run .bytes) (core .run .len)
-    → record { refusal = core .refusal; run = run } ≡ emitted emptyRun a
-core-emitted (refused e) h q = rw (h, rw h at q)
-core-emitted (bytes xs) h q = rw (h, (rw h at q) ∙ filled-again xs)
+  pub finished : (i : ℕ) → i ≡ countOf codes → isRefused (firstCodes i .refusal) ≡ false → record { refusal = R.None; run = firstCodes i .run } ≡ codesEmitted run codes insn off
+  finished i e q = rw (sym (none-is (firstCodes i .refusal) q)) (ap firstCodes e ∙ all-codes)
+
+-- the codes' run is kept where none is refused
+pub codes-kept : (codes : Codes) (insn : InstructionData) (off : ℕ) → kept (codesEmitted emptyRun codes insn off) ≡ emitted emptyRun (codesAnswer codes insn off)
+codes-kept codes insn off = by-cases (eqb (codes .count) 1) (codeAnswer (codes .first) insn off) (codeAnswer (codes .second) insn off) where
+  by-cases : (t : Bool) (a b : Answer) → kept (pick t (emitted emptyRun a) (behind (emitted emptyRun a) b)) ≡ emitted emptyRun (pick t a (joined a b))
+  by-cases true (bytes xs) b = refl
+  by-cases true (refused e) b = refl
+  by-cases false (refused e) b = refl
+  by-cases false (bytes xs) (refused e) = refl
+  by-cases false (bytes xs) (bytes ys) = rw (appended-append emptyRun xs ys)

@@ -17,13 +17,16 @@ use Rattle.mrc_compiler.specs.Choose.{pick}
 use Rattle.mrc_compiler.specs.Values.{within}
 use Rattle.values.specs.Distances.{distanceOf, wrapped}
 use Rattle.answers.specs.Records.{dst, src}
-use Rattle.answers.specs.Layout.{byteOf, wordOf, prefixBytes, displacementBytes}
+use Rattle.answers.specs.Layout.{wordBytes, byteOf, wordOf, prefixBytes, displacementBytes}
 use Rattle.answers.specs.Answer.{Answer, bytes, refused}
 use Rattle.emitter.specs.declared.ByteRun.{ByteRun}
-use Rattle.emitter.specs.Run.{appended}
+use Rattle.emitter.specs.Run.{emptyRun, appended}
 use Rattle.emit.specs.declared.Refusal.{Refusal}
 use Rattle.emit.specs.declared.Refusal.the-variants as R
 use Rattle.emit.specs.declared.Emitted.{Emitted}
+use Rattle.emit.specs.declared.Field.{Field}
+use Rattle.emit.specs.declared.Field.the-variants as F
+use Rattle.emit.specs.declared.Fields.{Fields}
 
 -- ---- what is emitted
 -- the run with an answer's bytes behind it, or as it was with the refusal
@@ -35,9 +38,29 @@ abbrev pub isRefused : Refusal → Bool
 isRefused R.None = false
 isRefused (R.Because e) = true
 
--- what came out behind a first part: where it was refused, the run before both
-abbrev pub undone : ByteRun → Emitted → Emitted
-undone run second = record { refusal = second .refusal; run = pick (isRefused (second .refusal)) run (second .run) }
+-- one answer more, behind what was not refused
+abbrev pub behind : Emitted → Answer → Emitted
+behind e a = pick (isRefused (e .refusal)) e (emitted (e .run) a)
+
+-- a run is dropped where there is a refusal
+abbrev pub kept : Emitted → Emitted
+kept e = record { refusal = e .refusal; run = pick (isRefused (e .refusal)) emptyRun (e .run) }
+
+-- ---- the fields of a code
+abbrev pub fieldBytes : Field → List ℕ
+fieldBytes F.Absent = []
+fieldBytes (F.Byte b) = b ∷ []
+fieldBytes (F.Word w) = wordBytes w
+
+abbrev pub fieldsBytes : Fields → List ℕ
+fieldsBytes f = fieldBytes (f .prefix) ++ (fieldBytes (f .opcode) ++ (fieldBytes (f .modrm) ++ fieldBytes (f .value)))
+
+abbrev pub answerBy : Refusal → List ℕ → Answer
+answerBy R.None bs = bytes bs
+answerBy (R.Because e) bs = refused e
+
+abbrev pub answerOf : Fields → Answer
+answerOf f = answerBy (f .refusal) (fieldsBytes f)
 
 -- ---- the bytes of a code
 -- a value in its limits, or refusal 5
@@ -107,3 +130,9 @@ countOf codes = pick (eqb (codes .count) 1) 1 2
 abbrev pub codesAnswer : Codes → InstructionData → ℕ → Answer
 codesAnswer codes insn off =
     pick (eqb (codes .count) 1) (codeAnswer (codes .first) insn off) (joined (codeAnswer (codes .first) insn off) (codeAnswer (codes .second) insn off))
+
+-- what the codes leave of a run: one after the other, until one is refused
+abbrev pub codesEmitted : ByteRun → Codes → InstructionData → ℕ → Emitted
+codesEmitted run codes insn off =
+    let one = emitted run (codeAnswer (codes .first) insn off) in
+    pick (eqb (codes .count) 1) one (behind one (codeAnswer (codes .second) insn off))

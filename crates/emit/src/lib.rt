@@ -1,13 +1,13 @@
-// 003: emits a code list. A run of bytes goes in by value and comes back with the bytes behind it, or as it was with the refusal.
+// 003: emits a code list. What a code emits is decided by value, field by field; the emitter is lent to whoever writes the fields.
 ghost use mathlib.Core.Path.{_≡_};
-ghost use mathlib.Core.List.{[]};
-ghost use Prim.Native.Nat.{_+_, _*_, _%_};
+ghost use mathlib.Core.List.{[], _∷_, _++_};
+ghost use Prim.Native.Nat.{_+_, _*_, _/_, _%_};
 ghost use lib.IntN.{pos};
-ghost use Rattle.answers.specs.Layout.{wordBytes, prefixBytes, displacementBytes};
 ghost use Rattle.answers.specs.Answer.{bytes, refused};
+ghost use Rattle.answers.specs.Layout.{prefixBytes, displacementBytes};
 ghost use Rattle.mrc_compiler.specs.declared.encoder.EncodeError.the-variants.{ImmediateOutOfRange};
 ghost use Rattle.emitter.specs.Run.{emptyRun, appended};
-ghost use Rattle.emit.specs.Emit.{emitted, immediateByte, immediateWord, relativeByte, relativeWord, modRmByte, modRegRm, joined, isRefused, undone, operand, other, codeAnswer, codeAt, countOf, codesAnswer};
+ghost use Rattle.emit.specs.Emit.{fieldBytes, answerOf, emitted, kept, immediateByte, immediateWord, relativeByte, relativeWord, modRmByte, modRegRm, joined, isRefused, operand, other, codeAnswer, codeAt, countOf, codesEmitted, codesAnswer};
 use emitter::ByteRun;
 use mrc_compiler::ast::Span;
 use mrc_compiler::encoder::EncodeError;
@@ -29,34 +29,67 @@ pub struct Emitted {
     pub run: ByteRun,
 }
 
-// A word, low byte first.
-pub fn push_word(run: ByteRun, value: u16) -> ByteRun
-    ensures { λ r. ⌜ r ≡ appended run (wordBytes value) ⌝ }
+// A field of an instruction: absent, a byte, or a word, low byte first.
+pub enum Field {
+    Absent,
+    Byte(u8),
+    Word(u16),
+}
+
+// What a code emits, one field after the other, or why it is refused.
+pub struct Fields {
+    pub prefix: Field,
+    pub opcode: Field,
+    pub modrm: Field,
+    pub value: Field,
+    pub refusal: Refusal,
+}
+
+// An immediate, a distance, or an opcode by itself.
+fn value_field(value: Field) -> Fields
+    ensures { λ r. ⌜ answerOf r ≡ bytes (fieldBytes value) ⌝ }
 {
-    let first = emitter::push(run, (value % 256) as u8);
-    emitter::push(first, (value / 256) as u8)
+    Fields {
+        prefix: Field::Absent,
+        opcode: Field::Absent,
+        modrm: Field::Absent,
+        value,
+        refusal: Refusal::None,
+    }
+}
+
+fn refuse(error: EncodeError) -> Fields
+    ensures { λ r. ⌜ answerOf r ≡ refused error ⌝ }
+{
+    Fields {
+        prefix: Field::Absent,
+        opcode: Field::Absent,
+        modrm: Field::Absent,
+        value: Field::Absent,
+        refusal: Refusal::Because(error),
+    }
 }
 
 // The prefix of a memory operand, also where it names the default segment; 0 means none.
-pub fn emit_segment_prefix(run: ByteRun, segment_prefix: u8) -> ByteRun
-    ensures { λ r. ⌜ r ≡ appended run (prefixBytes «segment_prefix») ⌝ }
+fn prefix_field(segment_prefix: u8) -> Field
+    ensures { λ r. ⌜ fieldBytes r ≡ prefixBytes «segment_prefix» ⌝ }
 {
     if segment_prefix == 0 {
-        run
+        Field::Absent
     } else {
-        emitter::push(run, segment_prefix)
+        Field::Byte(segment_prefix)
     }
 }
 
 // The displacement, in the size that the operand states.
-fn emit_displacement(run: ByteRun, oper: OperandData) -> ByteRun
-    ensures { λ r. ⌜ r ≡ appended run (displacementBytes oper) ⌝ }
+fn displacement_field(oper: OperandData) -> Field
+    ensures { λ r. ⌜ fieldBytes r ≡ displacementBytes oper ⌝ }
 {
     let size = oper.displacement_size;
     match size {
-        OperandSize::Unspecified => run,
-        OperandSize::Byte => emitter::push(run, values::low_byte(oper.displacement)),
-        OperandSize::Word => push_word(run, values::low_word(oper.displacement)),
+        OperandSize::Unspecified => Field::Absent,
+        OperandSize::Byte => Field::Byte(values::low_byte(oper.displacement)),
+        OperandSize::Word => Field::Word(values::low_word(oper.displacement)),
     }
 }
 
@@ -68,131 +101,111 @@ fn mod_rm_byte(mode: u8, reg: u8, rm: u8) -> u8
 }
 
 // Prefix, opcode, ModRM and displacement.
-pub fn emit_mod_reg_rm(run: ByteRun, op_code: u8, rm: OperandData, reg: u8) -> ByteRun
-    ensures { λ r. ⌜ r ≡ appended run (modRegRm «op_code» rm reg) ⌝ }
+fn mod_reg_rm(op_code: u8, rm: OperandData, reg: u8) -> Fields
+    ensures { λ r. ⌜ answerOf r ≡ bytes (modRegRm «op_code» rm reg) ⌝ }
 {
-    let prefixed = emit_segment_prefix(run, rm.segment_prefix);
-    let coded = emitter::push(prefixed, op_code);
-    let moded = emitter::push(coded, mod_rm_byte(rm.mode, reg, rm.rm));
-    emit_displacement(moded, rm)
-}
-
-// The run as it is, with no refusal.
-fn accept(run: ByteRun) -> Emitted
-    ensures { λ r. ⌜ r ≡ emitted run (bytes []) ⌝ }
-{
-    Emitted {
+    let prefix = prefix_field(rm.segment_prefix);
+    let modrm = mod_rm_byte(rm.mode, reg, rm.rm);
+    let value = displacement_field(rm);
+    Fields {
+        prefix,
+        opcode: Field::Byte(op_code),
+        modrm: Field::Byte(modrm),
+        value,
         refusal: Refusal::None,
-        run,
     }
 }
 
-// The run as it is, with a refusal.
-fn refuse(run: ByteRun, error: EncodeError) -> Emitted
-    ensures { λ r. ⌜ r ≡ emitted run (refused error) ⌝ }
+// Prefix and opcode.
+fn prefixed_op_code(segment_prefix: u8, op_code: u8) -> Fields
+    ensures { λ r. ⌜ answerOf r ≡ bytes (prefixBytes «segment_prefix» ++ («op_code» ∷ [])) ⌝ }
 {
-    Emitted {
-        refusal: Refusal::Because(error),
-        run,
+    let prefix = prefix_field(segment_prefix);
+    Fields {
+        prefix,
+        opcode: Field::Byte(op_code),
+        modrm: Field::Absent,
+        value: Field::Absent,
+        refusal: Refusal::None,
     }
 }
 
 // Refusal 5: the value is not in its limits.
-fn refuse_value(run: ByteRun, low: i32, high: i32, value: i32, span: Span) -> Emitted
-    ensures { λ r. ⌜ r ≡ emitted run (refused (ImmediateOutOfRange span value low high)) ⌝ }
+fn refuse_value(low: i32, high: i32, value: i32, span: Span) -> Fields
+    ensures { λ r. ⌜ answerOf r ≡ refused (ImmediateOutOfRange span value low high) ⌝ }
 {
-    refuse(
-        run,
-        EncodeError::ImmediateOutOfRange(span, value, low, high),
-    )
+    refuse(EncodeError::ImmediateOutOfRange(span, value, low, high))
 }
 
 // The low byte of a value in its limits, or refusal 5.
-fn emit_byte_within(run: ByteRun, low: i32, high: i32, value: i32, span: Span) -> Emitted
-    ensures { λ r. ⌜ r ≡ emitted run (immediateByte low high value span) ⌝ }
+fn byte_within(low: i32, high: i32, value: i32, span: Span) -> Fields
+    ensures { λ r. ⌜ answerOf r ≡ immediateByte low high value span ⌝ }
 {
     if values::value_is_within(value, low, high) {
-        accept(emitter::push(run, values::low_byte(value)))
+        value_field(Field::Byte(values::low_byte(value)))
     } else {
-        refuse_value(run, low, high, value, span)
+        refuse_value(low, high, value, span)
     }
 }
 
 // The low word of a value in its limits, or refusal 5.
-fn emit_word_within(run: ByteRun, low: i32, high: i32, value: i32, span: Span) -> Emitted
-    ensures { λ r. ⌜ r ≡ emitted run (immediateWord low high value span) ⌝ }
+fn word_within(low: i32, high: i32, value: i32, span: Span) -> Fields
+    ensures { λ r. ⌜ answerOf r ≡ immediateWord low high value span ⌝ }
 {
     if values::value_is_within(value, low, high) {
-        accept(push_word(run, values::low_word(value)))
+        value_field(Field::Word(values::low_word(value)))
     } else {
-        refuse_value(run, low, high, value, span)
+        refuse_value(low, high, value, span)
     }
 }
 
 // A distance byte, or refusal 6.
-fn emit_relative_byte(run: ByteRun, oper: OperandData, offset: u16, size: u8) -> Emitted
-    ensures { λ r. ⌜ r ≡ emitted run (relativeByte oper offset size) ⌝ }
+fn relative_byte(oper: OperandData, offset: u16, size: u8) -> Fields
+    ensures { λ r. ⌜ answerOf r ≡ relativeByte oper offset size ⌝ }
 {
     let span = oper.span;
     match values::relative_byte(oper.imm, offset, size) {
-        Relative::Short(byte) => accept(emitter::push(run, byte)),
+        Relative::Short(byte) => value_field(Field::Byte(byte)),
         Relative::Far(distance) => {
-            refuse(
-                run,
-                EncodeError::RelativeJumpOutOfRange(span, OperandSize::Byte, true, distance),
-            )
+            refuse(EncodeError::RelativeJumpOutOfRange(span, OperandSize::Byte, true, distance))
         }
     }
 }
 
 // A distance word, or refusal 5 for a target that is no word.
-fn emit_relative_word(run: ByteRun, oper: OperandData, offset: u16) -> Emitted
-    ensures { λ r. ⌜ r ≡ emitted run (relativeWord oper offset) ⌝ }
+fn relative_word(oper: OperandData, offset: u16) -> Fields
+    ensures { λ r. ⌜ answerOf r ≡ relativeWord oper offset ⌝ }
 {
     let span = oper.span;
     let target = oper.imm;
     if values::value_is_within(target, 0, 65535) {
-        accept(push_word(run, values::near_distance(target, offset)))
+        value_field(Field::Word(values::near_distance(target, offset)))
     } else {
-        refuse_value(run, 0, 65535, target, span)
+        refuse_value(0, 65535, target, span)
     }
 }
 
-// Is there a refusal?
-fn is_refused(refusal: Refusal) -> bool
-    ensures { λ r. ⌜ r ≡ isRefused refusal ⌝ }
-{
-    match refusal {
-        Refusal::None => false,
-        Refusal::Because(_) => true,
-    }
-}
-
-// What was emitted behind a first part: where it was refused, the run before both.
-fn undo_refused(run: ByteRun, second: Emitted) -> Emitted
-    ensures { λ r. ⌜ r ≡ undone run second ⌝ }
-{
-    let refusal = second.refusal;
-    if is_refused(refusal) {
-        Emitted { refusal, run }
-    } else {
-        second
-    }
-}
-
-// The target's offset, then its segment.
-fn emit_far_words(run: ByteRun, oper: OperandData) -> Emitted
-    ensures { λ r. ⌜ r ≡ emitted run (joined (immediateWord (pos 0) (pos 65535) (oper .imm) (oper .span)) (immediateWord (pos 0) (pos 65535) (oper .displacement) (oper .span))) ⌝ }
+// The target's offset, then its segment: two words, which stand in the fields of an opcode and of its value.
+fn far_words(oper: OperandData) -> Fields
+    ensures { λ r. ⌜ answerOf r ≡ joined (immediateWord (pos 0) (pos 65535) (oper .imm) (oper .span)) (immediateWord (pos 0) (pos 65535) (oper .displacement) (oper .span)) ⌝ }
 {
     let span = oper.span;
-    let first = emit_word_within(run, 0, 65535, oper.imm, span);
-    let refusal = first.refusal;
-    if is_refused(refusal) {
-        first
+    let target = oper.imm;
+    let segment = oper.displacement;
+    if values::value_is_within(target, 0, 65535) {
+        if values::value_is_within(segment, 0, 65535) {
+            Fields {
+                prefix: Field::Absent,
+                opcode: Field::Word(values::low_word(target)),
+                modrm: Field::Absent,
+                value: Field::Word(values::low_word(segment)),
+                refusal: Refusal::None,
+            }
+        } else {
+            refuse_value(0, 65535, segment, span)
+        }
     } else {
-        let so_far = first.run;
-        let segment = emit_word_within(so_far, 0, 65535, oper.displacement, span);
-        undo_refused(run, segment)
+        refuse_value(0, 65535, target, span)
     }
 }
 
@@ -224,58 +237,93 @@ fn other_of(insn: InstructionData, k: u8) -> OperandData
     if k == 0 { insn.opers[1] } else { insn.opers[0] }
 }
 
-// One code.
-pub fn emit_code(run: ByteRun, insn: InstructionData, offset: u16, code: Code) -> Emitted
-    ensures { λ r. ⌜ r ≡ emitted run (codeAnswer code insn offset) ⌝ }
+// What one code emits.
+fn fields_of(insn: InstructionData, offset: u16, code: Code) -> Fields
+    ensures { λ r. ⌜ answerOf r ≡ codeAnswer code insn offset ⌝ }
 {
     match code {
-        Code::Byte(byte) => accept(emitter::push(run, byte)),
+        Code::Byte(byte) => value_field(Field::Byte(byte)),
         Code::ImmByte(k) => {
             let oper = operand_of(insn, k);
-            emit_byte_within(run, 0, 255, oper.imm, oper.span)
+            byte_within(0, 255, oper.imm, oper.span)
         }
         Code::ImmWord(k) => {
             let oper = operand_of(insn, k);
-            emit_word_within(run, 0, 65535, oper.imm, oper.span)
+            word_within(0, 65535, oper.imm, oper.span)
         }
         Code::DispWord(k) => {
             let oper = operand_of(insn, k);
-            emit_word_within(run, 0, 65535, oper.displacement, oper.span)
+            word_within(0, 65535, oper.displacement, oper.span)
         }
-        Code::RelByte(k, size) => emit_relative_byte(run, operand_of(insn, k), offset, size),
+        Code::RelByte(k, size) => relative_byte(operand_of(insn, k), offset, size),
         Code::ModRegRM(k, op_code) => {
             let rm = operand_of(insn, k);
             let reg = other_of(insn, k);
-            accept(emit_mod_reg_rm(run, op_code, rm, reg.rm))
+            mod_reg_rm(op_code, rm, reg.rm)
         }
-        Code::ModRM(k, op_code, reg) => accept(emit_mod_reg_rm(
-            run,
-            op_code,
-            operand_of(insn, k),
-            reg,
-        )),
+        Code::ModRM(k, op_code, reg) => mod_reg_rm(op_code, operand_of(insn, k), reg),
         Code::RegByte(k, op_code) => {
             let oper = operand_of(insn, k);
-            accept(emitter::push(run, opcode_with_register(op_code, oper.rm)))
+            value_field(Field::Byte(opcode_with_register(op_code, oper.rm)))
         }
         Code::SegByte(k, op_code) => {
             let oper = operand_of(insn, k);
-            accept(emitter::push(run, opcode_with_segment(op_code, oper.rm)))
+            value_field(Field::Byte(opcode_with_segment(op_code, oper.rm)))
         }
         Code::MemByte(k, op_code) => {
             let oper = operand_of(insn, k);
-            accept(emitter::push(emit_segment_prefix(run, oper.segment_prefix), op_code))
+            prefixed_op_code(oper.segment_prefix, op_code)
         }
         Code::ImmSignedByte(k) => {
             let oper = operand_of(insn, k);
-            emit_byte_within(run, -128, 255, oper.imm, oper.span)
+            byte_within(-128, 255, oper.imm, oper.span)
         }
         Code::ImmSignedWord(k) => {
             let oper = operand_of(insn, k);
-            emit_word_within(run, -32768, 65535, oper.imm, oper.span)
+            word_within(-32768, 65535, oper.imm, oper.span)
         }
-        Code::RelWord(k) => emit_relative_word(run, operand_of(insn, k), offset),
-        Code::FarWords(k) => emit_far_words(run, operand_of(insn, k)),
+        Code::RelWord(k) => relative_word(operand_of(insn, k), offset),
+        Code::FarWords(k) => far_words(operand_of(insn, k)),
+    }
+}
+
+// The low byte of a word.
+fn low_half(word: u16) -> u8
+    ensures { λ r. ⌜ r ≡ word % 256 ⌝ }
+{
+    (word % 256) as u8
+}
+
+// The high byte of a word.
+fn high_half(word: u16) -> u8
+    ensures { λ r. ⌜ r ≡ word / 256 ⌝ }
+{
+    (word / 256) as u8
+}
+
+// Emits one field.
+fn emit_field(emitter: &mut ByteRun, field: Field)
+    ensures { λ _. ⌜ now (emitter .exit) ≡ appended (now (emitter .entry)) (fieldBytes field) ⌝ }
+{
+    match field {
+        Field::Absent => {}
+        Field::Byte(byte) => {
+            emitter.emit(byte);
+        }
+        Field::Word(word) => {
+            emitter.emit(low_half(word));
+            emitter.emit(high_half(word));
+        }
+    }
+}
+
+// Is there a refusal?
+fn is_refused(refusal: Refusal) -> bool
+    ensures { λ r. ⌜ r ≡ isRefused refusal ⌝ }
+{
+    match refusal {
+        Refusal::None => false,
+        Refusal::Because(_) => true,
     }
 }
 
@@ -292,37 +340,51 @@ fn count_of(codes: Codes) -> u8
     if codes.count == 1 { 1 } else { 2 }
 }
 
-// The core: the codes of a list, one after the other, by value and from an empty run.
-fn codes_run(insn: InstructionData, offset: u16, codes: Codes) -> Emitted
-    ensures { λ r. ⌜ r ≡ emitted emptyRun (codesAnswer codes insn offset) ⌝ }
+// Emits the codes of a list, one after the other, until one is refused.
+pub fn emit_codes(
+    emitter: &mut ByteRun,
+    insn: InstructionData,
+    offset: u16,
+    codes: Codes,
+) -> Refusal
+    ensures { λ r. ⌜ record { refusal = r; run = now (emitter .exit) } ≡ codesEmitted (now (emitter .entry)) codes insn offset ⌝ }
 {
     let n = count_of(codes);
-    let mut run = emitter::empty_run();
     let mut i = 0;
     while i < n {
-        let code = code_at(codes, i);
-        let done = emit_code(run, insn, offset, code);
-        let refusal = done.refusal;
+        let fields = fields_of(insn, offset, code_at(codes, i));
+        let refusal = fields.refusal;
         if is_refused(refusal) {
-            return Emitted {
-                refusal,
-                run: emitter::empty_run(),
-            };
+            return refusal;
         }
-        run = done.run;
+        emit_field(emitter, fields.prefix);
+        emit_field(emitter, fields.opcode);
+        emit_field(emitter, fields.modrm);
+        emit_field(emitter, fields.value);
         i += 1;
     }
-    accept(run)
+    Refusal::None
 }
 
-// The codes of a list: what the core decides is emitted, one byte at a time.
-pub fn emit_codes(insn: InstructionData, offset: u16, codes: Codes) -> Emitted
+// A run that was emitted; on a refusal it is dropped.
+fn keep(refusal: Refusal, run: ByteRun) -> Emitted
+    ensures { λ r. ⌜ r ≡ kept (record { refusal = refusal; run = run }) ⌝ }
+{
+    let dropped = emitter::empty_run();
+    match refusal {
+        Refusal::None => Emitted { refusal, run },
+        Refusal::Because(_) => Emitted {
+            refusal,
+            run: dropped,
+        },
+    }
+}
+
+// The run of a code list, or the refusal: an empty run is lent to whoever emits the codes. Its parameters are plain, so a caller is lent nothing.
+pub fn codes_run(insn: InstructionData, offset: u16, codes: Codes) -> Emitted
     ensures { λ r. ⌜ r ≡ emitted emptyRun (codesAnswer codes insn offset) ⌝ }
 {
-    let core = codes_run(insn, offset, codes);
-    let refusal = core.refusal;
-    Emitted {
-        refusal,
-        run: emitter::filled(core.run),
-    }
+    let mut emitter = emitter::empty_run();
+    let refusal = emit_codes(&mut emitter, insn, offset, codes);
+    keep(refusal, emitter)
 }

@@ -1,3 +1,3 @@
 pub mod Lent
-pub mod Cited
+pub mod Plain
 pub mod Laws

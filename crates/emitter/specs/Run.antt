@@ -1,9 +1,9 @@
 -- A run of bytes and what an emitter makes of it (document 01, 'Byte run').
 -- Definitions only.
-use Prim.Native.Nat.{ℕ, zero, suc, _+_}
+use Prim.Native.Nat.{ℕ, _+_}
 use mathlib.Core.List.{List, [], _∷_}
 use lib.Dec.{ltb}
-use lib.ListN.{set, getD}
+use lib.ListN.{set}
 use Rattle.mrc_compiler.specs.Choose.{pick}
 use Rattle.emitter.specs.declared.ByteRun.{ByteRun}
 
@@ -18,8 +18,3 @@ pushed run b = pick (ltb (run .len) 7) (record { bytes = set (run .bytes) (run .
 abbrev pub appended : ByteRun → List ℕ → ByteRun
 appended run [] = run
 appended run (b ∷ bs) = appended (pushed run b) bs
-
--- the first n of these bytes, one after the other; past their end stands 0
-abbrev pub pushedFirst : ByteRun → List ℕ → ℕ → ByteRun
-pushedFirst run bs zero = run
-pushedFirst run bs (suc n) = pushed (pushedFirst run bs n) (getD bs n 0)

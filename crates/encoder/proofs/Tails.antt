@@ -20,7 +20,7 @@ use Rattle.x86.specs.Reading.{Place, nowhere, by-modrm, about, somewhere}
 use Rattle.x86.specs.Reading as R
 use Rattle.x86.proofs.Tests.{is-true}
 use Rattle.answers.specs.WellFormed.{wellFormed}
-use Rattle.answers.specs.Groups.{Group}
+use Rattle.groups.specs.declared.Group.{Group}
 use Rattle.answers.specs.Choice.{takes}
 use Rattle.answers.specs.Layout.{byteOf, wordOf, part}
 use Rattle.answers.specs.Limits.{Kind, data-byte, data-word, memory-byte, memory-word, sign-extended, vector, port, address, target, segment, limits, byteKind, wordKind, inLimits, shortDistance, ofSlot}

@@ -18,15 +18,15 @@ use Rattle.mrc_compiler.specs.declared.encoder.generate.At.the-variants as At
 use Rattle.mrc_compiler.specs.declared.operations.Operation.{Operation}
 use Rattle.mrc_compiler.specs.Choose.{pick, both}
 use Rattle.mrc_compiler.specs.Operations.{sameOperation}
-use Rattle.x86.specs.Instructions.{symmetric}
 use Rattle.x86.specs.Forms.{Form, forms}
 use Rattle.x86.specs.Reading.{about}
 use Rattle.x86.proofs.Tests.{both-parts, eachOf, each-at, kept}
 use Rattle.x86.proofs.Unambiguous.{digitOk, all-bytes}
 use Rattle.answers.specs.Records.{dst, src}
 use Rattle.answers.specs.WellFormed.{wellFormed}
-use Rattle.answers.specs.Groups.{Group, groupOf}
-use Rattle.answers.specs.Choice.{Choice, none, straight, crossed, takes, sizeIn, choose, countTaken, formsOf}
+use Rattle.groups.specs.declared.Group.{Group}
+use Rattle.groups.specs.Grouping.{groupedOf, groupOf}
+use Rattle.answers.specs.Choice.{Choice, none, straight, crossed, takes, sizeIn, choose, countTaken, eitherWay, formsOf}
 use Rattle.answers.specs.Layout.{Part, part, layout}
 use Rattle.answers.specs.Limits.{Asked, asked, ofSlot, ofForm}
 use Rattle.answers.specs.Questions.{Ask, ask, sizeStated, sizesAgree, targetAsked, formFound, groupAsks, withSpan, isSupported, formAsked, chosen, questions}
@@ -36,7 +36,7 @@ use Rattle.answers.proofs.Slots.{Field, field, placeOf, laid, ByField, by-field
 use Rattle.answers.proofs.ReadBack.{ArrangedForm}
 use Rattle.answers.proofs.Meanings.{all-at}
 use Rattle.answers.proofs.Operations.{by-operation}
-use Rattle.plans.specs.Plans.{tail, head, fixed, formPlan, choicePlan, refusing, planOf, planBy}
+use Rattle.plans.specs.Plans.{tail, head, fixed, formPlan, choicePlan, refusing, planOf}
 use Rattle.emit.specs.Emit.{joined, operand, other}
 use Rattle.encoder.specs.Coded.{planAnswer, coded}
 use Rattle.encoder.proofs.Joins.{asked-joined, listed, listed-append, emits, refuses}
@@ -60,7 +60,7 @@ unfolding forms
 few-codes = tt
 
 kinds-fit : T (eachOf (λ f. both (firstFits f) (secondFits f)) forms)
-unfolding forms groupOf
+unfolding forms groupedOf
 kinds-fit = tt
 
 -- what is asked of a form's operands i and j, with its bytes, is what its codes answer
@@ -234,9 +234,9 @@ module _ (insn : InstructionData) (off : ℕ) (wa : wellFormed (dst insn) ≡ tr
       t : OperandSize
       t = sizeIn (groupOf op) (dst insn) (src insn) (src insn)
 
-      go : (k : Bool) → Same (pick k (choose (symmetric op) (formsOf op) s (dst insn) t (src insn)) none)
+      go : (k : Bool) → Same (pick k (choose (eitherWay (groupOf op)) (formsOf op) s (dst insn) t (src insn)) none)
       go true =
-          choose-has Same (symmetric op) s (dst insn) t (src insn) same-none (formsOf op)
+          choose-has Same (eitherWay (groupOf op)) s (dst insn) t (src insn) same-none (formsOf op)
           (λ f m x y. same (straight f) (of-operation 0 1 refl refl wa wb f m s t x y))
           (λ f m x y. same (crossed f) (of-operation 1 0 refl refl wb wa f m t s x y))
       go false = same-none
@@ -249,7 +249,7 @@ asked-where n false e qs bs x h = refl
 
 -- the answer as the code finds it is the answer of the questions and forms
 pub tied : (insn : InstructionData) (off : ℕ) → coded insn off ≡ answer insn off
-unfolding coded answer questions planOf planBy
+unfolding coded answer questions planOf
 tied insn off =
     let a = dst insn in
     let b = src insn in

@@ -64,7 +64,7 @@ fn run_of_plan(plan: Plan, insn: InstructionData, offset: u16) -> Emitted
     ensures { λ r. ⌜ r ≡ emitted emptyRun (planAnswer plan insn offset) ⌝ }
 {
     match plan {
-        Plan::Emit(codes) => emit::emit_codes(insn, offset, codes),
+        Plan::Emit(codes) => emit::codes_run(insn, offset, codes),
         Plan::Refused(why, at) => refused(error_of(why, at, insn)),
     }
 }
@@ -106,7 +106,7 @@ pub fn encoded_length(insn: InstructionData, offset: u16) -> Encoded
 }
 
 // Writes the run to the front of out where it fits, and else nothing.
-fn write_run(run: ByteRun, out: &mut [u8]) -> bool
+pub fn write_run(run: ByteRun, out: &mut [u8]) -> bool
     requires { ⌜ run .len ≤ 7 ⌝ }
     ensures { λ r. ⌜ r ≡ leb (run .len) (length (now (out .entry))) ⌝ }
     ensures { λ _. ⌜ now (out .exit) ≡ pick (leb (run .len) (length (now (out .entry)))) (take (run .len) (run .bytes) ++ drop (run .len) (now (out .entry))) (now (out .entry)) ⌝ }

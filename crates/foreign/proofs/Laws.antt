@@ -4,7 +4,7 @@ use mathlib.Core.Path.{_≡_, refl}
 use mathlib.Core.List.{List, [], _∷_, _++_}
 use Prim.Native.Nat.{ℕ, suc, _+_, _-_, _≤_}
 use native.Mathlib.Omega.{arith}
-use mathlib.Core.Bool.{true, false}
+use mathlib.Core.Bool.{Bool, true, false}
 use lib.Dec.{eqb}
 use lib.IntN.{ℤ, pos, negsuc, natAbs, _-ℤ_}
 use lib.Signed.{ltZ}
@@ -12,13 +12,15 @@ use lib.ListN.{length, drop, set}
 use lib.Seq.{sets, sets-eq}
 use mir.Syntax.{w32}
 use mir.Val.{SFits, toZ, ofZ}
+use Rattle.mrc_compiler.specs.declared.encoder.InstructionData.{InstructionData}
+use Rattle.mrc_compiler.specs.Choose.{pick}
 use Rattle.mrc_compiler.specs.Values.{modZ}
 use Rattle.foreign.specs.declared.report.Told.{Told}
-use Rattle.foreign.specs.Crossing.{u32Bytes, bits, threeBytes, reportAfter}
+use Rattle.foreign.specs.Crossing.{u32Bytes, bits, threeBytes, toldAlone, reportAfter}
 use Rattle.records.specs.Record.{codesKnown, instructionAt}
-use Rattle.foreign.specs.EncodeRecord.{wrong-length, unknown-code, of, recordOf}
+use Rattle.foreign.specs.EncodeRecord.{Record, wrong-length, unknown-code, of, recordOf, recordNumber, toldOf, leftBy}
 use Rattle.values.proofs.Laws.{flip-cast, keep-cast, low-negative, low-from-zero}
-use borrow.Author.Tests.{le-leb}
+use borrow.Author.Tests.{le-leb, eqb-true}
 
 -- ---- bytes one behind the other
 pub four-set : (s : List ℕ) (at a b c d : ℕ) → set (set (set (set s at a) (at + 1) b) (at + 2) c) (at + 3) d ≡ sets s at (a ∷ b ∷ c ∷ d ∷ [])
@@ -75,15 +77,24 @@ module _ (z : ℤ) (f : SFits w32 z) (t : ltZ (toZ w32 (ofZ w32 z)) (pos 0) ≡ 
   pub bits-from-zero : natAbs (toZ w32 (ofZ w32 z)) ≡ modZ 4294967296 z
   bits-from-zero = let h = keep-cast z f t .1 .fits in let e = low-from-zero z f t 4294967296 in omega arith
 
--- ---- what 56 bytes are
-pub is-wrong : (s : List ℕ) → eqb (length s) 56 ≡ false → recordOf s ≡ wrong-length
+-- ---- what 56 bytes are: a record where record_number answers 0
+pub is-record : (s : List ℕ) → recordNumber (recordOf s) ≡ 0 → (length s ≡ 56) × (recordOf s ≡ of (instructionAt s))
 unfolding recordOf
-is-wrong s e = rw e
+is-record s = go (eqb (length s) 56) (codesKnown s) refl refl
+  where
+    go : (a b : Bool) → eqb (length s) 56 ≡ a → codesKnown s ≡ b → recordNumber (pick a (pick b (of (instructionAt s)) unknown-code) wrong-length) ≡ 0
+        → (length s ≡ 56) × (pick a (pick b (of (instructionAt s)) unknown-code) wrong-length ≡ of (instructionAt s))
+    go true true p q e = (eqb-true (length s) 56 p, refl)
+    go true false p q e = absurd (omega arith)
+    go false b p q e = absurd (omega arith)
 
-pub is-unknown : (s : List ℕ) → eqb (length s) 56 ≡ true → codesKnown s ≡ false → recordOf s ≡ unknown-code
-unfolding recordOf
-is-unknown s e u = rw (e, u)
+-- else its number stands alone, and nothing is written
+pub record Refused (r : Record) : Type 0 where
+  pub tells : (f : InstructionData → Told) → toldAlone (recordNumber r) ≡ toldOf r f
+  pub leaves : (out : List ℕ) (g : InstructionData → List ℕ) → out ≡ leftBy r out g
 
-pub is-known : (s : List ℕ) → eqb (length s) 56 ≡ true → codesKnown s ≡ true → recordOf s ≡ of (instructionAt s)
-unfolding recordOf
-is-known s e u = rw (e, u)
+pub not-record : (r : Record) → (recordNumber r ≡ 0 → ⊥) → Refused r
+unfolding toldOf leftBy
+not-record wrong-length h = record { tells = λ f. refl; leaves = λ out g. refl }
+not-record unknown-code h = record { tells = λ f. refl; leaves = λ out g. refl }
+not-record (of insn) h = absurd (h refl)

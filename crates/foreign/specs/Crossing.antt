@@ -72,9 +72,21 @@ toldSpan n span = toldReport (record { number = n; span = span; values = none })
 abbrev pub toldAlone : ℕ → Told
 toldAlone n = toldSpan n noSpan
 
+-- 0 with a length
+abbrev pub toldLength : ℕ → Told
+toldLength n = record {
+  number = 0;
+  length = n % 4294967296;
+  span = noSpan;
+  value = pos 0;
+  low = pos 0;
+  high = pos 0;
+  «record» = noRecord;
+}
+
 -- 0 with the number of bytes, or the refusal
 abbrev pub toldEncoded : Encoded → Told
-toldEncoded (N.Length n) = record { number = 0; length = n % 4294967296; span = noSpan; value = pos 0; low = pos 0; high = pos 0; «record» = noRecord }
+toldEncoded (N.Length n) = toldLength n
 toldEncoded (N.Refused e) = toldRefusal e
 
 -- ---- the report

@@ -20,13 +20,24 @@ pub data Record : Type 0 where
 unfoldable pub recordOf : List ℕ → Record
 recordOf s = pick (eqb (length s) recordLength) (pick (codesKnown s) (of (instructionAt s)) unknown-code) wrong-length
 
-abbrev pub toldRecord : Record → ℕ → List ℕ → Told
-toldRecord wrong-length off out = toldAlone 14
-toldRecord unknown-code off out = toldAlone 15
-toldRecord (of insn) off out = toldEncoded (outcome (answer insn off) (insn .«opers_span») out)
+abbrev pub recordNumber : Record → ℕ
+recordNumber wrong-length = 14
+recordNumber unknown-code = 15
+recordNumber (of insn) = 0
 
--- nothing is written for 14 and 15
+-- 14 and 15 stand alone, and nothing is written for them
+unfoldable pub toldOf : Record → (InstructionData → Told) → Told
+toldOf wrong-length f = toldAlone (recordNumber wrong-length)
+toldOf unknown-code f = toldAlone (recordNumber unknown-code)
+toldOf (of insn) f = f insn
+
+unfoldable pub leftBy : Record → List ℕ → (InstructionData → List ℕ) → List ℕ
+leftBy wrong-length out f = out
+leftBy unknown-code out f = out
+leftBy (of insn) out f = f insn
+
+abbrev pub toldRecord : Record → ℕ → List ℕ → Told
+toldRecord r off out = toldOf r (λ insn. toldEncoded (outcome (answer insn off) (insn .«opers_span») out))
+
 abbrev pub outAfter : Record → ℕ → List ℕ → List ℕ
-outAfter wrong-length off out = out
-outAfter unknown-code off out = out
-outAfter (of insn) off out = sliceAfter (answer insn off) out
+outAfter r off out = leftBy r out (λ insn. sliceAfter (answer insn off) out)

@@ -1,14 +1,13 @@
 -- What fsq_load answers: the loader's answer, as it is told.
 -- Definitions only.
 use Prim.Native.Nat.{ℕ, _%_}
-use lib.IntN.{pos}
 use Rattle.loader.specs.declared.LoadError.{LoadError}
 use Rattle.loader.specs.declared.LoadError.the-variants as E
 use Rattle.loader.specs.declared.Loaded.{Loaded}
 use Rattle.loader.specs.declared.Loaded.the-variants as L
 use Rattle.loader.specs.Loading.{numberOf}
 use Rattle.foreign.specs.declared.report.Told.{Told}
-use Rattle.foreign.specs.Crossing.{noSpan, noRecord, toldAlone, toldRefusal}
+use Rattle.foreign.specs.Crossing.{toldLength, toldAlone, toldRefusal}
 
 -- what is told, of record k
 abbrev pub ofRecord : Told → ℕ → Told
@@ -32,5 +31,5 @@ toldLoadError (E.Record k e) = ofRecord (toldRefusal e) k
 
 -- 0 with the length of the image, or the refusal
 abbrev pub toldLoaded : Loaded → Told
-toldLoaded (L.Image h n) = record { number = 0; length = n % 4294967296; span = noSpan; value = pos 0; low = pos 0; high = pos 0; «record» = noRecord }
+toldLoaded (L.Image h n) = toldLength n
 toldLoaded (L.Refused e) = toldLoadError e

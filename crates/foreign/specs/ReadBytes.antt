@@ -13,12 +13,12 @@ use Rattle.mrc_compiler.specs.Operations.{numberOf}
 use Rattle.x86.specs.declared.Instruction.{Instruction}
 use Rattle.x86.specs.declared.Operand.{Operand}
 use Rattle.x86.specs.declared.Operand.the-variants as O
-use Rattle.rows.specs.declared.Extension.{Extension}
-use Rattle.rows.specs.declared.Extension.the-variants as X
-use Rattle.rows.specs.declared.Form.{Form}
+use Rattle.forms.specs.declared.Extension.{Extension}
+use Rattle.forms.specs.declared.Extension.the-variants as X
+use Rattle.forms.specs.declared.FormName.{FormName}
 use Rattle.reader.specs.declared.Decoded.{Decoded}
 use Rattle.reader.specs.declared.Decoded.the-variants.{Whole, Nothing, More}
-use Rattle.listing.specs.Operands.{outlineOf, displacementIn, valueIn, farSegmentIn, sizeNumber}
+use Rattle.x86.specs.Operands.{outlineOf, displacementIn, valueIn, farSegmentIn, sizeNumber}
 use Rattle.foreign.specs.Crossing.{threeBytes}
 
 -- ES, CS, SS, DS
@@ -48,7 +48,7 @@ extensionNumber X.ModRm = 3
 extensionNumber X.Second0A = 4
 extensionNumber (X.Digit n) = (8 + n) % 256
 
-abbrev pub headOf : Instruction → Form → ℕ → ℕ
+abbrev pub headOf : Instruction → FormName → ℕ → ℕ
 headOf m f n = n % 256 + 256 * (numberOf (m .operation) + 256 * (sizeNumber (m .width) + 256 * (f .opcode)))
 
 unfoldable pub operandHead : Operand → ℕ
@@ -61,7 +61,7 @@ operandValues o = (displacementIn o + valueIn o) % 65536 + 65536 * farSegmentIn 
 abbrev pub readLength : ℕ
 readLength = 24
 
-abbrev pub readBytes : Instruction → Form → ℕ → List ℕ
+abbrev pub readBytes : Instruction → FormName → ℕ → List ℕ
 readBytes m f n =
     threeBytes (headOf m f n) (extensionNumber (f .extension)) (operandHead (m .first))
     ++ threeBytes (operandValues (m .first)) (operandHead (m .second)) (operandValues (m .second))

@@ -1,25 +1,33 @@
 // One record of a show file, encoded.
 ghost use mathlib.Core.Path.{_≡_};
 ghost use Rattle.foreign.specs.Crossing.{reportAfter};
-ghost use Rattle.foreign.specs.EncodeRecord.{recordOf, toldRecord, outAfter};
+ghost use Rattle.foreign.specs.EncodeRecord.{recordOf, recordNumber, toldRecord, outAfter};
 use crate::report::Told;
 use crate::report::told_alone;
 use crate::report::told_encoded;
 use crate::report::write_report;
+
+// 14 or 15 where the bytes are not a record, else 0.
+pub fn record_number(rec: &[u8]) -> u8
+    ensures { λ r. ⌜ r ≡ recordNumber (recordOf (now (rec .entry))) ⌝ }
+{
+    if rec.len() != records::RECORD_LENGTH {
+        return 14;
+    }
+    if records::codes_known(rec) { 0 } else { 15 }
+}
 
 // Encodes the record into the front of out, and tells the answer.
 fn told_record(rec: &[u8], offset: u16, out: &mut [u8]) -> Told
     ensures { λ r. ⌜ r ≡ toldRecord (recordOf (now (rec .entry))) offset (now (out .entry)) ⌝ }
     ensures { λ _. ⌜ now (out .exit) ≡ outAfter (recordOf (now (rec .entry))) offset (now (out .entry)) ⌝ }
 {
-    if rec.len() != records::RECORD_LENGTH {
-        return told_alone(14);
-    }
-    if records::codes_known(rec) {
+    let number = record_number(rec);
+    if number == 0 {
         let insn = records::instruction_at(rec);
         told_encoded(encoder::encode(insn, offset, out))
     } else {
-        told_alone(15)
+        told_alone(number)
     }
 }
 

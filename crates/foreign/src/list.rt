@@ -3,28 +3,20 @@ ghost use mathlib.Core.Path.{_≡_};
 ghost use Rattle.foreign.specs.Crossing.{reportAfter};
 ghost use Rattle.foreign.specs.EncodeRecord.{recordOf};
 ghost use Rattle.foreign.specs.ListRecord.{toldListed, toldListing, listAfter};
-use crate::report::NO_RECORD;
+use crate::encode::record_number;
 use crate::report::Told;
 use crate::report::told_alone;
+use crate::report::told_length;
 use crate::report::told_refusal;
 use crate::report::write_report;
 use lister::Listed;
-use mrc_compiler::ast::Span;
 
 // An answer of the lister.
 fn told_listed(listed: Listed) -> Told
     ensures { λ r. ⌜ r ≡ toldListed listed ⌝ }
 {
     match listed {
-        Listed::Count(n) => Told {
-            number: 0,
-            length: (n % 4294967296) as u32,
-            span: Span { start: 0, end: 0 },
-            value: 0,
-            low: 0,
-            high: 0,
-            record: NO_RECORD,
-        },
+        Listed::Count(n) => told_length(n),
         Listed::Refused(e) => told_refusal(e),
     }
 }
@@ -34,14 +26,12 @@ fn told_listing(rec: &[u8], offset: u16, out: &mut [u8]) -> Told
     ensures { λ r. ⌜ r ≡ toldListing (recordOf (now (rec .entry))) offset (now (out .entry)) ⌝ }
     ensures { λ _. ⌜ now (out .exit) ≡ listAfter (recordOf (now (rec .entry))) offset (now (out .entry)) ⌝ }
 {
-    if rec.len() != records::RECORD_LENGTH {
-        return told_alone(14);
-    }
-    if records::codes_known(rec) {
+    let number = record_number(rec);
+    if number == 0 {
         let insn = records::instruction_at(rec);
         told_listed(lister::list(insn, offset, out))
     } else {
-        told_alone(15)
+        told_alone(number)
     }
 }
 

@@ -4,14 +4,13 @@ ghost use lib.ListN.{length};
 ghost use Rattle.loader.specs.Loading.{loaded, imageAfter};
 ghost use Rattle.foreign.specs.Crossing.{reportAfter};
 ghost use Rattle.foreign.specs.LoadShow.{ofRecord, toldLoadError, toldLoaded};
-use crate::report::NO_RECORD;
 use crate::report::Told;
 use crate::report::told_alone;
+use crate::report::told_length;
 use crate::report::told_refusal;
 use crate::report::write_report;
 use loader::LoadError;
 use loader::Loaded;
-use mrc_compiler::ast::Span;
 
 // What is told, of record k of a file.
 fn of_record(told: Told, k: usize) -> Told
@@ -52,15 +51,7 @@ fn told_loaded(answer: Loaded) -> Told
     ensures { λ r. ⌜ r ≡ toldLoaded answer ⌝ }
 {
     match answer {
-        Loaded::Image(_, n) => Told {
-            number: 0,
-            length: (n % 4294967296) as u32,
-            span: Span { start: 0, end: 0 },
-            value: 0,
-            low: 0,
-            high: 0,
-            record: NO_RECORD,
-        },
+        Loaded::Image(_, n) => told_length(n),
         Loaded::Refused(error) => told_load_error(error),
     }
 }

@@ -3,15 +3,13 @@ ghost use mathlib.Core.Path.{_≡_};
 ghost use Prim.Native.Nat.{_≤_};
 ghost use mathlib.Core.List.{_++_};
 ghost use lib.ListN.{length, drop};
-ghost use Rattle.listing.specs.Operands.{sizeNumber};
 ghost use Rattle.reader.specs.Answer.{decoded};
 ghost use Rattle.foreign.specs.ReadBytes.{segmentIn, extensionNumber, headOf, operandHead, operandValues, readBytes, readNumber, readAfter};
 use crate::report::put_three;
+use forms::Extension;
+use forms::FormName;
 use mrc_compiler::ast::Segment;
-use mrc_compiler::encoder::OperandSize;
 use reader::Decoded;
-use rows::Extension;
-use rows::Form;
 use x86::Instruction;
 use x86::Operand;
 
@@ -36,16 +34,6 @@ fn segment_in(oper: Operand) -> u8
     }
 }
 
-fn size_number(size: OperandSize) -> u8
-    ensures { λ r. ⌜ r ≡ sizeNumber size ⌝ }
-{
-    match size {
-        OperandSize::Unspecified => 0,
-        OperandSize::Byte => 1,
-        OperandSize::Word => 2,
-    }
-}
-
 fn extension_number(extension: Extension) -> u8
     ensures { λ r. ⌜ r ≡ extensionNumber extension ⌝ }
 {
@@ -59,21 +47,21 @@ fn extension_number(extension: Extension) -> u8
     }
 }
 
-fn head_of(insn: Instruction, form: Form, n: usize) -> u32
+fn head_of(insn: Instruction, form: FormName, n: usize) -> u32
     ensures { λ r. ⌜ r ≡ headOf insn form n ⌝ }
 {
     let operation = insn.operation;
     let width = insn.width;
     let opcode = form.opcode;
-    let number = compare::number_of(operation);
-    let size = size_number(width);
+    let number = operation.number();
+    let size = x86::operands::size_number(width);
     (n % 256) as u32 + 256 * (number as u32 + 256 * (size as u32 + 256 * (opcode as u32)))
 }
 
 fn operand_head(oper: Operand) -> u32
     ensures { λ r. ⌜ r ≡ operandHead oper ⌝ }
 {
-    let outline = starts::outline_of(oper);
+    let outline = x86::operands::outline_of(oper);
     let segment = segment_in(oper);
     outline.kind as u32 + 256 * (outline.number as u32 + 256 * (segment as u32))
 }
@@ -81,14 +69,14 @@ fn operand_head(oper: Operand) -> u32
 fn operand_values(oper: Operand) -> u32
     ensures { λ r. ⌜ r ≡ operandValues oper ⌝ }
 {
-    let displacement = candidates::displacement_in(oper);
-    let value = candidates::value_in(oper);
-    let far = candidates::far_segment_in(oper);
+    let displacement = x86::operands::displacement_in(oper);
+    let value = x86::operands::value_in(oper);
+    let far = x86::operands::far_segment_in(oper);
     std::num::wrapping_add_u16(displacement, value) as u32 + 65536 * (far as u32)
 }
 
 // Writes an instruction to the front of out.
-fn write_read(insn: Instruction, form: Form, n: usize, out: &mut [u8])
+fn write_read(insn: Instruction, form: FormName, n: usize, out: &mut [u8])
     requires { ⌜ 24 ≤ length (now out) ⌝ }
     ensures { λ _. ⌜ now (out .exit) ≡ readBytes insn form n ++ drop 24 (now (out .entry)) ⌝ }
 {

@@ -4,7 +4,7 @@ ghost use Prim.Native.Nat.{_+_, _≤_};
 ghost use lib.ListN.{length};
 ghost use lib.Seq.{sets};
 ghost use Rattle.mrc_compiler.specs.Values.{modZ};
-ghost use Rattle.foreign.specs.Crossing.{u32Bytes, threeBytes, toldAlone, toldSpan, toldRefusal, toldEncoded, reportAfter};
+ghost use Rattle.foreign.specs.Crossing.{u32Bytes, threeBytes, toldLength, toldAlone, toldSpan, toldRefusal, toldEncoded, reportAfter};
 use mrc_compiler::ast::Span;
 use mrc_compiler::encoder::EncodeError;
 use mrc_compiler::encoder::Encoded;
@@ -32,6 +32,21 @@ pub fn told_alone(number: u8) -> Told
     Told {
         number,
         length: 0,
+        span: Span { start: 0, end: 0 },
+        value: 0,
+        low: 0,
+        high: 0,
+        record: NO_RECORD,
+    }
+}
+
+// 0, with a length.
+pub fn told_length(n: usize) -> Told
+    ensures { λ r. ⌜ r ≡ toldLength n ⌝ }
+{
+    Told {
+        number: 0,
+        length: (n % 4294967296) as u32,
         span: Span { start: 0, end: 0 },
         value: 0,
         low: 0,
@@ -93,15 +108,7 @@ pub fn told_encoded(encoded: Encoded) -> Told
     ensures { λ r. ⌜ r ≡ toldEncoded encoded ⌝ }
 {
     match encoded {
-        Encoded::Length(n) => Told {
-            number: 0,
-            length: (n % 4294967296) as u32,
-            span: Span { start: 0, end: 0 },
-            value: 0,
-            low: 0,
-            high: 0,
-            record: NO_RECORD,
-        },
+        Encoded::Length(n) => told_length(n),
         Encoded::Refused(e) => told_refusal(e),
     }
 }

@@ -1,360 +1,231 @@
-// Arithmetic and logic of 000: ADD to CMP, NOT to IDIV, TEST, INC and DEC, shifts. Each function answers the code list of the form that it takes.
+// Arithmetic and logic of 000: ADD to CMP, NOT to IDIV, TEST, INC and DEC, shifts. Each function decides which form of the table a record takes.
 ghost use mathlib.Core.Path.{_≡_};
-ghost use Prim.Native.Nat.{_<_};
-ghost use Rattle.mrc_compiler.specs.declared.encoder.OperandSize.the-variants as S;
-ghost use Rattle.plans.specs.Blocks.{arithmeticPlan, arithmeticSized, unaryPlan, testPlan, testSized, incDecPlan, shiftPlan, shiftSized};
+ghost use mathlib.Core.Bool.{false};
+ghost use Prim.Native.Nat.{zero};
+ghost use lib.Dec.{eqb};
+ghost use lib.IntN.{pos, negsuc};
+ghost use Rattle.mrc_compiler.specs.Values.{within};
+ghost use Rattle.groups.specs.declared.Group.the-variants as G;
+ghost use Rattle.plans.specs.declared.Line.the-variants as L;
+ghost use Rattle.plans.specs.Decisions.{byData, addForm, rmForm, testForm, incForm, shiftBy, decisionIn};
+use mrc_compiler::ast::DataSize;
+use mrc_compiler::ast::OptionDataSize;
 use mrc_compiler::encoder;
-use mrc_compiler::encoder::InstructionData;
+use mrc_compiler::encoder::OperandData;
 use mrc_compiler::encoder::OperandKind;
-use mrc_compiler::encoder::OperandSize;
-use mrc_compiler::encoder::generate::At;
-use mrc_compiler::encoder::generate::Code;
-use mrc_compiler::encoder::generate::FIRST_OPER_DST;
-use mrc_compiler::encoder::generate::FIRST_OPER_SRC;
-use mrc_compiler::encoder::generate::Plan;
-use mrc_compiler::encoder::generate::Why;
 use plans::Common;
+use plans::Decision;
+use plans::Line;
 
-pub fn encode_group_add_or_adc_sbb_and_sub_xor_cmp(base: u8, insn: InstructionData) -> Plan
-    requires { ⌜ base < 64 ⌝ }
-    ensures { λ r. ⌜ r ≡ arithmeticPlan base insn ⌝ }
+// A word immediate that is a signed byte takes 83.
+fn takes_byte(size: DataSize, value: i32) -> bool
+    ensures { λ r. ⌜ r ≡ byData size false (within (negsuc 127) (pos 127) value) ⌝ }
 {
-    let dst = insn.opers[0];
-    let src = insn.opers[1];
-    let dst_size = dst.size;
-    let src_size = src.size;
-    let size = plans::common_operand_size(dst_size, src_size);
     match size {
-        Common::Byte => add_byte(base, insn),
-        Common::Word => add_word(base, insn),
-        Common::NotSpecified => Plan::Refused(Why::OperandSizeNotSpecified, At::Operands),
-        Common::DoNotMatch => Plan::Refused(Why::OperandSizesDoNotMatch, At::Operands),
+        DataSize::Byte => false,
+        DataSize::Word => encoder::value_is_signed_byte(value),
     }
 }
 
-// The forms of bytes.
-fn add_byte(base: u8, insn: InstructionData) -> Plan
-    requires { ⌜ base < 64 ⌝ }
-    ensures { λ r. ⌜ r ≡ arithmeticSized S.Byte base insn ⌝ }
+// By kinds: acc, the first is AL or AX; short, the immediate takes 83.
+fn add_form(dst: OperandKind, src: OperandKind, acc: bool, short: bool) -> Line
+    ensures { λ r. ⌜ r ≡ addForm dst src acc short ⌝ }
 {
-    let dst = insn.opers[0];
-    let src = insn.opers[1];
-    let dst_kind = dst.kind;
-    let src_kind = src.kind;
-    match dst_kind {
-        OperandKind::Imm => Plan::Refused(Why::InvalidOperands, At::Operands),
-        OperandKind::Reg => match src_kind {
+    match dst {
+        OperandKind::Imm => Line::InvalidOperands,
+        OperandKind::Reg => match src {
             OperandKind::Imm => {
-                if plans::is_zero(dst.rm) {
-                    plans::two(Code::Byte(base + 4), Code::ImmByte(FIRST_OPER_SRC))
+                if short {
+                    Line::ArithRmImmSx
                 } else {
-                    plans::two(
-                        Code::ModRM(FIRST_OPER_DST, 0x80, base / 8),
-                        Code::ImmByte(FIRST_OPER_SRC),
-                    )
-                }
-            },
-            OperandKind::Reg => plans::one(Code::ModRegRM(FIRST_OPER_DST, base)),
-            OperandKind::Seg => Plan::Refused(Why::InvalidOperands, At::Operands),
-            OperandKind::Mem => plans::one(Code::ModRegRM(FIRST_OPER_SRC, base + 2)),
-        },
-        OperandKind::Seg => Plan::Refused(Why::InvalidOperands, At::Operands),
-        OperandKind::Mem => match src_kind {
-            OperandKind::Imm => plans::two(
-                Code::ModRM(FIRST_OPER_DST, 0x80, base / 8),
-                Code::ImmByte(FIRST_OPER_SRC),
-            ),
-            OperandKind::Reg => plans::one(Code::ModRegRM(FIRST_OPER_DST, base)),
-            OperandKind::Seg => Plan::Refused(Why::InvalidOperands, At::Operands),
-            OperandKind::Mem => Plan::Refused(Why::InvalidOperands, At::Operands),
-        },
-    }
-}
-
-// The forms of words: an immediate that is a signed byte takes 83.
-fn add_word(base: u8, insn: InstructionData) -> Plan
-    requires { ⌜ base < 64 ⌝ }
-    ensures { λ r. ⌜ r ≡ arithmeticSized S.Word base insn ⌝ }
-{
-    let dst = insn.opers[0];
-    let src = insn.opers[1];
-    let dst_kind = dst.kind;
-    let src_kind = src.kind;
-    match dst_kind {
-        OperandKind::Imm => Plan::Refused(Why::InvalidOperands, At::Operands),
-        OperandKind::Reg => match src_kind {
-            OperandKind::Imm => {
-                if encoder::value_is_signed_byte(src.imm) {
-                    plans::two(
-                        Code::ModRM(FIRST_OPER_DST, 0x83, base / 8),
-                        Code::ImmByte(FIRST_OPER_SRC),
-                    )
-                } else {
-                    if plans::is_zero(dst.rm) {
-                        plans::two(Code::Byte(base + 5), Code::ImmWord(FIRST_OPER_SRC))
+                    if acc {
+                        Line::ArithAccImm
                     } else {
-                        plans::two(
-                            Code::ModRM(FIRST_OPER_DST, 0x81, base / 8),
-                            Code::ImmWord(FIRST_OPER_SRC),
-                        )
+                        Line::ArithRmImm
                     }
                 }
             },
-            OperandKind::Reg => plans::one(Code::ModRegRM(FIRST_OPER_DST, base + 1)),
-            OperandKind::Seg => Plan::Refused(Why::InvalidOperands, At::Operands),
-            OperandKind::Mem => plans::one(Code::ModRegRM(FIRST_OPER_SRC, base + 3)),
+            OperandKind::Reg => Line::ArithRmReg,
+            OperandKind::Seg => Line::InvalidOperands,
+            OperandKind::Mem => Line::ArithRegRm,
         },
-        OperandKind::Seg => Plan::Refused(Why::InvalidOperands, At::Operands),
-        OperandKind::Mem => match src_kind {
+        OperandKind::Seg => Line::InvalidOperands,
+        OperandKind::Mem => match src {
             OperandKind::Imm => {
-                if encoder::value_is_signed_byte(src.imm) {
-                    plans::two(
-                        Code::ModRM(FIRST_OPER_DST, 0x83, base / 8),
-                        Code::ImmByte(FIRST_OPER_SRC),
-                    )
+                if short {
+                    Line::ArithRmImmSx
                 } else {
-                    plans::two(
-                        Code::ModRM(FIRST_OPER_DST, 0x81, base / 8),
-                        Code::ImmWord(FIRST_OPER_SRC),
-                    )
+                    Line::ArithRmImm
                 }
             },
-            OperandKind::Reg => plans::one(Code::ModRegRM(FIRST_OPER_DST, base + 1)),
-            OperandKind::Seg => Plan::Refused(Why::InvalidOperands, At::Operands),
-            OperandKind::Mem => Plan::Refused(Why::InvalidOperands, At::Operands),
+            OperandKind::Reg => Line::ArithRmReg,
+            OperandKind::Seg => Line::InvalidOperands,
+            OperandKind::Mem => Line::InvalidOperands,
         },
     }
 }
 
-pub fn encode_group_not_neg_mul_imul_div_idiv(base: u8, insn: InstructionData) -> Plan
-    ensures { λ r. ⌜ r ≡ unaryPlan base insn ⌝ }
+pub fn encode_group_add_or_adc_sbb_and_sub_xor_cmp(dst: OperandData, src: OperandData) -> Decision
+    ensures { λ r. ⌜ r ≡ decisionIn G.Arithmetic zero dst src ⌝ }
 {
-    let dst = insn.opers[0];
-    let size = dst.size;
-    let kind = dst.kind;
-    match size {
-        OperandSize::Unspecified => Plan::Refused(Why::OperandSizeNotSpecified, At::Operands),
-        OperandSize::Byte => match kind {
-            OperandKind::Imm => Plan::Refused(Why::InvalidOperands, At::Operands),
-            OperandKind::Reg => plans::one(Code::ModRM(FIRST_OPER_DST, 0xF6, base)),
-            OperandKind::Seg => Plan::Refused(Why::InvalidOperands, At::Operands),
-            OperandKind::Mem => plans::one(Code::ModRM(FIRST_OPER_DST, 0xF6, base)),
-        },
-        OperandSize::Word => match kind {
-            OperandKind::Imm => Plan::Refused(Why::InvalidOperands, At::Operands),
-            OperandKind::Reg => plans::one(Code::ModRM(FIRST_OPER_DST, 0xF7, base)),
-            OperandKind::Seg => Plan::Refused(Why::InvalidOperands, At::Operands),
-            OperandKind::Mem => plans::one(Code::ModRM(FIRST_OPER_DST, 0xF7, base)),
-        },
-    }
-}
-
-pub fn encode_group_test(_base: u8, insn: InstructionData) -> Plan
-    ensures { λ r. ⌜ r ≡ testPlan insn ⌝ }
-{
-    let dst = insn.opers[0];
-    let src = insn.opers[1];
     let dst_size = dst.size;
     let src_size = src.size;
-    let size = plans::common_operand_size(dst_size, src_size);
-    match size {
-        Common::Byte => test_byte(insn),
-        Common::Word => test_word(insn),
-        Common::NotSpecified => Plan::Refused(Why::OperandSizeNotSpecified, At::Operands),
-        Common::DoNotMatch => Plan::Refused(Why::OperandSizesDoNotMatch, At::Operands),
+    let dst_kind = dst.kind;
+    let src_kind = src.kind;
+    match plans::common_operand_size(dst_size, src_size) {
+        Common::Is(size) => {
+            let acc = plans::is_zero(dst.rm);
+            let short = takes_byte(size, src.imm);
+            let line = add_form(dst_kind, src_kind, acc, short);
+            Decision { line, size }
+        },
+        Common::NotSpecified => plans::plain(Line::SizeNotSpecified),
+        Common::DoNotMatch => plans::plain(Line::SizesDoNotMatch),
+    }
+}
+
+// A register or memory in r/m.
+fn rm_form(line: Line, kind: OperandKind) -> Line
+    ensures { λ r. ⌜ r ≡ rmForm line kind ⌝ }
+{
+    match kind {
+        OperandKind::Imm => Line::InvalidOperands,
+        OperandKind::Reg => line,
+        OperandKind::Seg => Line::InvalidOperands,
+        OperandKind::Mem => line,
+    }
+}
+
+pub fn encode_group_not_neg_mul_imul_div_idiv(dst: OperandData, src: OperandData) -> Decision
+    ensures { λ r. ⌜ r ≡ decisionIn G.Unary zero dst src ⌝ }
+{
+    let dst_size = dst.size;
+    let dst_kind = dst.kind;
+    match plans::stated_size(dst_size) {
+        OptionDataSize::None => plans::plain(Line::SizeNotSpecified),
+        OptionDataSize::Some(size) => {
+            let line = rm_form(Line::UnaryRm, dst_kind);
+            Decision { line, size }
+        },
     }
 }
 
 // AL with an immediate; 000 leaves the other forms open.
-fn test_byte(insn: InstructionData) -> Plan
-    ensures { λ r. ⌜ r ≡ testSized S.Byte insn ⌝ }
+fn test_form(dst: OperandKind, src: OperandKind, al: bool) -> Line
+    ensures { λ r. ⌜ r ≡ testForm dst src al ⌝ }
 {
-    let dst = insn.opers[0];
-    let src = insn.opers[1];
+    match dst {
+        OperandKind::Imm => Line::InvalidOperands,
+        OperandKind::Reg => match src {
+            OperandKind::Imm => { if al { Line::TestAccImm } else { Line::LeftOpen } },
+            OperandKind::Reg => Line::LeftOpen,
+            OperandKind::Seg => Line::InvalidOperands,
+            OperandKind::Mem => Line::LeftOpen,
+        },
+        OperandKind::Seg => Line::InvalidOperands,
+        OperandKind::Mem => match src {
+            OperandKind::Imm => Line::LeftOpen,
+            OperandKind::Reg => Line::LeftOpen,
+            OperandKind::Seg => Line::InvalidOperands,
+            OperandKind::Mem => Line::InvalidOperands,
+        },
+    }
+}
+
+fn is_al(size: DataSize, rm: u8) -> bool
+    ensures { λ r. ⌜ r ≡ byData size (eqb rm 0) false ⌝ }
+{
+    match size {
+        DataSize::Byte => rm == 0,
+        DataSize::Word => false,
+    }
+}
+
+pub fn encode_group_test(dst: OperandData, src: OperandData) -> Decision
+    ensures { λ r. ⌜ r ≡ decisionIn G.Test zero dst src ⌝ }
+{
+    let dst_size = dst.size;
+    let src_size = src.size;
     let dst_kind = dst.kind;
     let src_kind = src.kind;
-    match dst_kind {
-        OperandKind::Imm => Plan::Refused(Why::InvalidOperands, At::Operands),
-        OperandKind::Reg => match src_kind {
-            OperandKind::Imm => {
-                if plans::is_zero(dst.rm) {
-                    plans::two(Code::Byte(0xA8), Code::ImmByte(FIRST_OPER_SRC))
-                } else {
-                    Plan::Refused(Why::NotSupported, At::Operands)
-                }
-            },
-            OperandKind::Reg => Plan::Refused(Why::NotSupported, At::Operands),
-            OperandKind::Seg => Plan::Refused(Why::InvalidOperands, At::Operands),
-            OperandKind::Mem => Plan::Refused(Why::NotSupported, At::Operands),
+    match plans::common_operand_size(dst_size, src_size) {
+        Common::Is(size) => {
+            let al = is_al(size, dst.rm);
+            let line = test_form(dst_kind, src_kind, al);
+            Decision { line, size }
         },
-        OperandKind::Seg => Plan::Refused(Why::InvalidOperands, At::Operands),
-        OperandKind::Mem => match src_kind {
-            OperandKind::Imm => Plan::Refused(Why::NotSupported, At::Operands),
-            OperandKind::Reg => Plan::Refused(Why::NotSupported, At::Operands),
-            OperandKind::Seg => Plan::Refused(Why::InvalidOperands, At::Operands),
-            OperandKind::Mem => Plan::Refused(Why::InvalidOperands, At::Operands),
-        },
+        Common::NotSpecified => plans::plain(Line::SizeNotSpecified),
+        Common::DoNotMatch => plans::plain(Line::SizesDoNotMatch),
     }
 }
 
-fn test_word(insn: InstructionData) -> Plan
-    ensures { λ r. ⌜ r ≡ testSized S.Word insn ⌝ }
+// A word register is in the opcode.
+fn inc_form(size: DataSize, kind: OperandKind) -> Line
+    ensures { λ r. ⌜ r ≡ incForm size kind ⌝ }
 {
-    let dst = insn.opers[0];
-    let src = insn.opers[1];
+    match kind {
+        OperandKind::Imm => Line::InvalidOperands,
+        OperandKind::Reg => match size {
+            DataSize::Byte => Line::IncRm,
+            DataSize::Word => Line::IncReg,
+        },
+        OperandKind::Seg => Line::InvalidOperands,
+        OperandKind::Mem => Line::IncRm,
+    }
+}
+
+pub fn encode_group_inc_dec(dst: OperandData, src: OperandData) -> Decision
+    ensures { λ r. ⌜ r ≡ decisionIn G.IncDec zero dst src ⌝ }
+{
+    let dst_size = dst.size;
     let dst_kind = dst.kind;
-    let src_kind = src.kind;
-    match dst_kind {
-        OperandKind::Imm => Plan::Refused(Why::InvalidOperands, At::Operands),
-        OperandKind::Reg => match src_kind {
-            OperandKind::Imm => Plan::Refused(Why::NotSupported, At::Operands),
-            OperandKind::Reg => Plan::Refused(Why::NotSupported, At::Operands),
-            OperandKind::Seg => Plan::Refused(Why::InvalidOperands, At::Operands),
-            OperandKind::Mem => Plan::Refused(Why::NotSupported, At::Operands),
+    match plans::stated_size(dst_size) {
+        OptionDataSize::None => plans::plain(Line::InvalidSize),
+        OptionDataSize::Some(size) => {
+            let line = inc_form(size, dst_kind);
+            Decision { line, size }
         },
-        OperandKind::Seg => Plan::Refused(Why::InvalidOperands, At::Operands),
-        OperandKind::Mem => match src_kind {
-            OperandKind::Imm => Plan::Refused(Why::NotSupported, At::Operands),
-            OperandKind::Reg => Plan::Refused(Why::NotSupported, At::Operands),
-            OperandKind::Seg => Plan::Refused(Why::InvalidOperands, At::Operands),
-            OperandKind::Mem => Plan::Refused(Why::InvalidOperands, At::Operands),
-        },
-    }
-}
-
-pub fn encode_group_inc_dec(base: u8, insn: InstructionData) -> Plan
-    requires { ⌜ base < 2 ⌝ }
-    ensures { λ r. ⌜ r ≡ incDecPlan base insn ⌝ }
-{
-    let dst = insn.opers[0];
-    let size = dst.size;
-    let kind = dst.kind;
-    match size {
-        OperandSize::Unspecified => Plan::Refused(Why::InvalidOperandSize, At::First),
-        OperandSize::Byte => match kind {
-            OperandKind::Imm => Plan::Refused(Why::InvalidOperands, At::Operands),
-            OperandKind::Reg => plans::one(Code::ModRM(FIRST_OPER_DST, 0xFE, base)),
-            OperandKind::Seg => Plan::Refused(Why::InvalidOperands, At::Operands),
-            OperandKind::Mem => plans::one(Code::ModRM(FIRST_OPER_DST, 0xFE, base)),
-        },
-        OperandSize::Word => match kind {
-            OperandKind::Imm => Plan::Refused(Why::InvalidOperands, At::Operands),
-            OperandKind::Reg => plans::one(Code::RegByte(FIRST_OPER_DST, 0x40 + 8 * base)),
-            OperandKind::Seg => Plan::Refused(Why::InvalidOperands, At::Operands),
-            OperandKind::Mem => plans::one(Code::ModRM(FIRST_OPER_DST, 0xFF, base)),
-        },
-    }
-}
-
-pub fn encode_group_rol_ror_rcl_rcr_shl_sal_shr_sar(base: u8, insn: InstructionData) -> Plan
-    ensures { λ r. ⌜ r ≡ shiftPlan base insn ⌝ }
-{
-    let dst = insn.opers[0];
-    let size = dst.size;
-    match size {
-        OperandSize::Unspecified => Plan::Refused(Why::OperandSizeNotSpecified, At::First),
-        OperandSize::Byte => shift_byte(base, insn),
-        OperandSize::Word => shift_word(base, insn),
     }
 }
 
 // By 1 or by CL.
-fn shift_byte(base: u8, insn: InstructionData) -> Plan
-    ensures { λ r. ⌜ r ≡ shiftSized S.Byte base insn ⌝ }
+fn shift_by(src: OperandKind, one: bool, cl: bool) -> Line
+    ensures { λ r. ⌜ r ≡ shiftBy src one cl ⌝ }
 {
-    let dst = insn.opers[0];
-    let src = insn.opers[1];
-    let dst_kind = dst.kind;
-    let src_kind = src.kind;
-    let src_size = src.size;
-    match dst_kind {
-        OperandKind::Imm => Plan::Refused(Why::InvalidOperands, At::Operands),
-        OperandKind::Reg => match src_kind {
-            OperandKind::Imm => {
-                if plans::value_is_one(src.imm) {
-                    plans::one(Code::ModRM(FIRST_OPER_DST, 0xD0, base))
-                } else {
-                    Plan::Refused(Why::InvalidOperands, At::Operands)
-                }
-            },
-            OperandKind::Reg => {
-                if plans::is_cl(src_size, src.rm) {
-                    plans::one(Code::ModRM(FIRST_OPER_DST, 0xD2, base))
-                } else {
-                    Plan::Refused(Why::InvalidOperands, At::Operands)
-                }
-            },
-            OperandKind::Seg => Plan::Refused(Why::InvalidOperands, At::Operands),
-            OperandKind::Mem => Plan::Refused(Why::InvalidOperands, At::Operands),
+    match src {
+        OperandKind::Imm => {
+            if one {
+                Line::ShiftRmOne
+            } else {
+                Line::InvalidOperands
+            }
         },
-        OperandKind::Seg => Plan::Refused(Why::InvalidOperands, At::Operands),
-        OperandKind::Mem => match src_kind {
-            OperandKind::Imm => {
-                if plans::value_is_one(src.imm) {
-                    plans::one(Code::ModRM(FIRST_OPER_DST, 0xD0, base))
-                } else {
-                    Plan::Refused(Why::InvalidOperands, At::Operands)
-                }
-            },
-            OperandKind::Reg => {
-                if plans::is_cl(src_size, src.rm) {
-                    plans::one(Code::ModRM(FIRST_OPER_DST, 0xD2, base))
-                } else {
-                    Plan::Refused(Why::InvalidOperands, At::Operands)
-                }
-            },
-            OperandKind::Seg => Plan::Refused(Why::InvalidOperands, At::Operands),
-            OperandKind::Mem => Plan::Refused(Why::InvalidOperands, At::Operands),
+        OperandKind::Reg => {
+            if cl {
+                Line::ShiftRmCl
+            } else {
+                Line::InvalidOperands
+            }
         },
+        OperandKind::Seg => Line::InvalidOperands,
+        OperandKind::Mem => Line::InvalidOperands,
     }
 }
 
-fn shift_word(base: u8, insn: InstructionData) -> Plan
-    ensures { λ r. ⌜ r ≡ shiftSized S.Word base insn ⌝ }
+pub fn encode_group_rol_ror_rcl_rcr_shl_sal_shr_sar(dst: OperandData, src: OperandData) -> Decision
+    ensures { λ r. ⌜ r ≡ decisionIn G.Shift zero dst src ⌝ }
 {
-    let dst = insn.opers[0];
-    let src = insn.opers[1];
+    let dst_size = dst.size;
     let dst_kind = dst.kind;
     let src_kind = src.kind;
     let src_size = src.size;
-    match dst_kind {
-        OperandKind::Imm => Plan::Refused(Why::InvalidOperands, At::Operands),
-        OperandKind::Reg => match src_kind {
-            OperandKind::Imm => {
-                if plans::value_is_one(src.imm) {
-                    plans::one(Code::ModRM(FIRST_OPER_DST, 0xD1, base))
-                } else {
-                    Plan::Refused(Why::InvalidOperands, At::Operands)
-                }
-            },
-            OperandKind::Reg => {
-                if plans::is_cl(src_size, src.rm) {
-                    plans::one(Code::ModRM(FIRST_OPER_DST, 0xD3, base))
-                } else {
-                    Plan::Refused(Why::InvalidOperands, At::Operands)
-                }
-            },
-            OperandKind::Seg => Plan::Refused(Why::InvalidOperands, At::Operands),
-            OperandKind::Mem => Plan::Refused(Why::InvalidOperands, At::Operands),
-        },
-        OperandKind::Seg => Plan::Refused(Why::InvalidOperands, At::Operands),
-        OperandKind::Mem => match src_kind {
-            OperandKind::Imm => {
-                if plans::value_is_one(src.imm) {
-                    plans::one(Code::ModRM(FIRST_OPER_DST, 0xD1, base))
-                } else {
-                    Plan::Refused(Why::InvalidOperands, At::Operands)
-                }
-            },
-            OperandKind::Reg => {
-                if plans::is_cl(src_size, src.rm) {
-                    plans::one(Code::ModRM(FIRST_OPER_DST, 0xD3, base))
-                } else {
-                    Plan::Refused(Why::InvalidOperands, At::Operands)
-                }
-            },
-            OperandKind::Seg => Plan::Refused(Why::InvalidOperands, At::Operands),
-            OperandKind::Mem => Plan::Refused(Why::InvalidOperands, At::Operands),
+    match plans::stated_size(dst_size) {
+        OptionDataSize::None => plans::plain(Line::SizeNotSpecifiedFirst),
+        OptionDataSize::Some(size) => {
+            let one = plans::value_is_one(src.imm);
+            let cl = plans::is_cl(src_size, src.rm);
+            let line = rm_form(shift_by(src_kind, one, cl), dst_kind);
+            Decision { line, size }
         },
     }
 }

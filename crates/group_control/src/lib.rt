@@ -1,198 +1,204 @@
-// Control transfer of 000, and the groups without operands. Each function answers the code list of the form that it takes.
+// Control transfer of 000, and the groups without operands. Each function decides which form of the table a record takes.
 ghost use mathlib.Core.Path.{_≡_};
-ghost use Prim.Native.Nat.{_<_};
-ghost use Rattle.plans.specs.Blocks.{returnPlan, callPlan, jumpPlan, conditionalPlan, loopPlan, singlePlan, interruptPlan, adjustPlan};
+ghost use Prim.Native.Nat.{zero};
+ghost use Rattle.groups.specs.declared.Group.the-variants as G;
+ghost use Rattle.plans.specs.Decisions.{throughForm, callForm, jmpForm, shortForm, intForm, decisionIn};
 use mrc_compiler::encoder;
-use mrc_compiler::encoder::InstructionData;
 use mrc_compiler::encoder::JumpKind;
+use mrc_compiler::encoder::OperandData;
 use mrc_compiler::encoder::OperandKind;
 use mrc_compiler::encoder::OperandSize;
-use mrc_compiler::encoder::generate::At;
-use mrc_compiler::encoder::generate::Code;
-use mrc_compiler::encoder::generate::FIRST_OPER_DST;
-use mrc_compiler::encoder::generate::Plan;
-use mrc_compiler::encoder::generate::Why;
+use plans::Decision;
+use plans::Line;
 
-pub fn encode_group_ret_retn_retf(base: u8, insn: InstructionData) -> Plan
-    requires { ⌜ base < 255 ⌝ }
-    ensures { λ r. ⌜ r ≡ returnPlan base insn ⌝ }
+pub fn encode_group_ret_retn_retf(num_opers: u8, dst: OperandData, src: OperandData) -> Decision
+    ensures { λ r. ⌜ r ≡ decisionIn G.Ret «num_opers» dst src ⌝ }
 {
-    if plans::is_zero(insn.num_opers) {
-        plans::one(Code::Byte(base + 1))
+    if plans::is_zero(num_opers) {
+        plans::plain(Line::Ret)
     } else {
-        Plan::Refused(Why::NotSupported, At::Operands)
+        plans::plain(Line::LeftOpen)
     }
 }
 
-pub fn encode_group_call(_base: u8, insn: InstructionData) -> Plan
-    ensures { λ r. ⌜ r ≡ callPlan insn ⌝ }
+// Through a register or memory: near, and no Byte; Far and Short are refused as the last two say.
+fn through_form(
+    line: Line,
+    jmp_kind: JumpKind,
+    size: OperandSize,
+    if_far: Line,
+    if_short: Line,
+) -> Line
+    ensures { λ r. ⌜ r ≡ throughForm line «jmp_kind» size «if_far» «if_short» ⌝ }
 {
-    let dst = insn.opers[0];
-    let kind = dst.kind;
-    let size = dst.size;
-    let jmp_kind = dst.jmp_kind;
+    match jmp_kind {
+        JumpKind::None => match size {
+            OperandSize::Unspecified => line,
+            OperandSize::Byte => Line::InvalidOperands,
+            OperandSize::Word => line,
+        },
+        JumpKind::Far => if_far,
+        JumpKind::Near => match size {
+            OperandSize::Unspecified => line,
+            OperandSize::Byte => Line::InvalidOperands,
+            OperandSize::Word => line,
+        },
+        JumpKind::Short => if_short,
+    }
+}
+
+fn call_form(kind: OperandKind, jmp_kind: JumpKind, size: OperandSize) -> Line
+    ensures { λ r. ⌜ r ≡ callForm kind «jmp_kind» size ⌝ }
+{
     match kind {
         OperandKind::Imm => match jmp_kind {
-            JumpKind::None => plans::two(Code::Byte(0xE8), Code::RelWord(FIRST_OPER_DST)),
-            JumpKind::Far => Plan::Refused(Why::InvalidOperands, At::Operands),
-            JumpKind::Near => plans::two(Code::Byte(0xE8), Code::RelWord(FIRST_OPER_DST)),
-            JumpKind::Short => Plan::Refused(Why::InvalidOperands, At::Operands),
+            JumpKind::None => Line::CallRel,
+            JumpKind::Far => Line::InvalidOperands,
+            JumpKind::Near => Line::CallRel,
+            JumpKind::Short => Line::InvalidOperands,
         },
-        OperandKind::Reg => match jmp_kind {
-            JumpKind::None => match size {
-                OperandSize::Unspecified => plans::one(Code::ModRM(FIRST_OPER_DST, 0xFF, 2)),
-                OperandSize::Byte => Plan::Refused(Why::InvalidOperands, At::Operands),
-                OperandSize::Word => plans::one(Code::ModRM(FIRST_OPER_DST, 0xFF, 2)),
-            },
-            JumpKind::Far => Plan::Refused(Why::InvalidOperands, At::Operands),
-            JumpKind::Near => match size {
-                OperandSize::Unspecified => plans::one(Code::ModRM(FIRST_OPER_DST, 0xFF, 2)),
-                OperandSize::Byte => Plan::Refused(Why::InvalidOperands, At::Operands),
-                OperandSize::Word => plans::one(Code::ModRM(FIRST_OPER_DST, 0xFF, 2)),
-            },
-            JumpKind::Short => Plan::Refused(Why::InvalidOperands, At::Operands),
-        },
-        OperandKind::Seg => Plan::Refused(Why::InvalidOperands, At::Operands),
-        OperandKind::Mem => match jmp_kind {
-            JumpKind::None => match size {
-                OperandSize::Unspecified => plans::one(Code::ModRM(FIRST_OPER_DST, 0xFF, 2)),
-                OperandSize::Byte => Plan::Refused(Why::InvalidOperands, At::Operands),
-                OperandSize::Word => plans::one(Code::ModRM(FIRST_OPER_DST, 0xFF, 2)),
-            },
-            JumpKind::Far => Plan::Refused(Why::NotSupported, At::Operands),
-            JumpKind::Near => match size {
-                OperandSize::Unspecified => plans::one(Code::ModRM(FIRST_OPER_DST, 0xFF, 2)),
-                OperandSize::Byte => Plan::Refused(Why::InvalidOperands, At::Operands),
-                OperandSize::Word => plans::one(Code::ModRM(FIRST_OPER_DST, 0xFF, 2)),
-            },
-            JumpKind::Short => Plan::Refused(Why::InvalidOperands, At::Operands),
-        },
+        OperandKind::Reg => through_form(
+            Line::CallRm,
+            jmp_kind,
+            size,
+            Line::InvalidOperands,
+            Line::InvalidOperands,
+        ),
+        OperandKind::Seg => Line::InvalidOperands,
+        OperandKind::Mem => through_form(
+            Line::CallRm,
+            jmp_kind,
+            size,
+            Line::LeftOpen,
+            Line::InvalidOperands,
+        ),
     }
 }
 
-pub fn encode_group_jmp(_base: u8, insn: InstructionData) -> Plan
-    ensures { λ r. ⌜ r ≡ jumpPlan insn ⌝ }
+pub fn encode_group_call(dst: OperandData, src: OperandData) -> Decision
+    ensures { λ r. ⌜ r ≡ decisionIn G.Call zero dst src ⌝ }
 {
-    let dst = insn.opers[0];
     let kind = dst.kind;
-    let size = dst.size;
     let jmp_kind = dst.jmp_kind;
+    let size = dst.size;
+    plans::plain(call_form(kind, jmp_kind, size))
+}
+
+// word: the immediate is one.
+fn jmp_form(kind: OperandKind, jmp_kind: JumpKind, size: OperandSize, word: bool) -> Line
+    ensures { λ r. ⌜ r ≡ jmpForm kind «jmp_kind» size word ⌝ }
+{
     match kind {
         OperandKind::Imm => {
-            if encoder::value_is_word(dst.imm) {
+            if word {
                 match jmp_kind {
-                    JumpKind::None => plans::two(Code::Byte(0xE9), Code::RelWord(FIRST_OPER_DST)),
-                    JumpKind::Far => plans::two(Code::Byte(0xEA), Code::FarWords(FIRST_OPER_DST)),
-                    JumpKind::Near => plans::two(Code::Byte(0xE9), Code::RelWord(FIRST_OPER_DST)),
-                    JumpKind::Short => Plan::Refused(Why::NotSupported, At::Operands),
+                    JumpKind::None => Line::JmpRel,
+                    JumpKind::Far => Line::JmpPtr,
+                    JumpKind::Near => Line::JmpRel,
+                    JumpKind::Short => Line::LeftOpen,
                 }
             } else {
-                Plan::Refused(Why::TargetOutOfRange, At::First)
+                Line::TargetOutOfRange
             }
         },
-        OperandKind::Reg => match jmp_kind {
-            JumpKind::None => match size {
-                OperandSize::Unspecified => plans::one(Code::ModRM(FIRST_OPER_DST, 0xFF, 4)),
-                OperandSize::Byte => Plan::Refused(Why::InvalidOperands, At::Operands),
-                OperandSize::Word => plans::one(Code::ModRM(FIRST_OPER_DST, 0xFF, 4)),
-            },
-            JumpKind::Far => Plan::Refused(Why::InvalidOperands, At::First),
-            JumpKind::Near => match size {
-                OperandSize::Unspecified => plans::one(Code::ModRM(FIRST_OPER_DST, 0xFF, 4)),
-                OperandSize::Byte => Plan::Refused(Why::InvalidOperands, At::Operands),
-                OperandSize::Word => plans::one(Code::ModRM(FIRST_OPER_DST, 0xFF, 4)),
-            },
-            JumpKind::Short => Plan::Refused(Why::InvalidOperands, At::First),
-        },
-        OperandKind::Seg => Plan::Refused(Why::InvalidOperands, At::Operands),
-        OperandKind::Mem => match jmp_kind {
-            JumpKind::None => match size {
-                OperandSize::Unspecified => plans::one(Code::ModRM(FIRST_OPER_DST, 0xFF, 4)),
-                OperandSize::Byte => Plan::Refused(Why::InvalidOperands, At::Operands),
-                OperandSize::Word => plans::one(Code::ModRM(FIRST_OPER_DST, 0xFF, 4)),
-            },
-            JumpKind::Far => Plan::Refused(Why::InvalidOperands, At::First),
-            JumpKind::Near => match size {
-                OperandSize::Unspecified => plans::one(Code::ModRM(FIRST_OPER_DST, 0xFF, 4)),
-                OperandSize::Byte => Plan::Refused(Why::InvalidOperands, At::Operands),
-                OperandSize::Word => plans::one(Code::ModRM(FIRST_OPER_DST, 0xFF, 4)),
-            },
-            JumpKind::Short => Plan::Refused(Why::InvalidOperands, At::First),
-        },
+        OperandKind::Reg => through_form(
+            Line::JmpRm,
+            jmp_kind,
+            size,
+            Line::InvalidFirst,
+            Line::InvalidFirst,
+        ),
+        OperandKind::Seg => Line::InvalidOperands,
+        OperandKind::Mem => through_form(
+            Line::JmpRm,
+            jmp_kind,
+            size,
+            Line::InvalidFirst,
+            Line::InvalidFirst,
+        ),
     }
 }
 
-pub fn encode_group_jcc(base: u8, insn: InstructionData) -> Plan
-    ensures { λ r. ⌜ r ≡ conditionalPlan base insn ⌝ }
+pub fn encode_group_jmp(dst: OperandData, src: OperandData) -> Decision
+    ensures { λ r. ⌜ r ≡ decisionIn G.Jmp zero dst src ⌝ }
 {
-    let dst = insn.opers[0];
     let kind = dst.kind;
     let jmp_kind = dst.jmp_kind;
+    let size = dst.size;
+    plans::plain(jmp_form(kind, jmp_kind, size, encoder::value_is_word(dst.imm)))
+}
+
+// A distance byte, of no kind or Short; else refused.
+fn short_form(kind: OperandKind, jmp_kind: JumpKind, refused: Line) -> Line
+    ensures { λ r. ⌜ r ≡ shortForm kind «jmp_kind» refused ⌝ }
+{
     match kind {
         OperandKind::Imm => match jmp_kind {
-            JumpKind::None => plans::two(Code::Byte(base), Code::RelByte(FIRST_OPER_DST, 2)),
-            JumpKind::Far => Plan::Refused(Why::InvalidOperands, At::First),
-            JumpKind::Near => Plan::Refused(Why::InvalidOperands, At::First),
-            JumpKind::Short => plans::two(Code::Byte(base), Code::RelByte(FIRST_OPER_DST, 2)),
+            JumpKind::None => Line::ShortRel,
+            JumpKind::Far => refused,
+            JumpKind::Near => refused,
+            JumpKind::Short => Line::ShortRel,
         },
-        OperandKind::Reg => Plan::Refused(Why::InvalidOperands, At::First),
-        OperandKind::Seg => Plan::Refused(Why::InvalidOperands, At::First),
-        OperandKind::Mem => Plan::Refused(Why::InvalidOperands, At::First),
+        OperandKind::Reg => refused,
+        OperandKind::Seg => refused,
+        OperandKind::Mem => refused,
     }
 }
 
-pub fn encode_group_loopc(base: u8, insn: InstructionData) -> Plan
-    ensures { λ r. ⌜ r ≡ loopPlan base insn ⌝ }
+pub fn encode_group_jcc(dst: OperandData, src: OperandData) -> Decision
+    ensures { λ r. ⌜ r ≡ decisionIn G.Jcc zero dst src ⌝ }
 {
-    let dst = insn.opers[0];
     let kind = dst.kind;
     let jmp_kind = dst.jmp_kind;
-    match kind {
-        OperandKind::Imm => match jmp_kind {
-            JumpKind::None => plans::two(Code::Byte(base), Code::RelByte(FIRST_OPER_DST, 2)),
-            JumpKind::Far => Plan::Refused(Why::InvalidOperands, At::Operands),
-            JumpKind::Near => Plan::Refused(Why::InvalidOperands, At::Operands),
-            JumpKind::Short => plans::two(Code::Byte(base), Code::RelByte(FIRST_OPER_DST, 2)),
-        },
-        OperandKind::Reg => Plan::Refused(Why::InvalidOperands, At::Operands),
-        OperandKind::Seg => Plan::Refused(Why::InvalidOperands, At::Operands),
-        OperandKind::Mem => Plan::Refused(Why::InvalidOperands, At::Operands),
-    }
+    plans::plain(short_form(kind, jmp_kind, Line::InvalidFirst))
 }
 
-pub fn encode_group_no_operands(base: u8, insn: InstructionData) -> Plan
-    ensures { λ r. ⌜ r ≡ singlePlan base insn ⌝ }
+pub fn encode_group_loopc(dst: OperandData, src: OperandData) -> Decision
+    ensures { λ r. ⌜ r ≡ decisionIn G.Loopc zero dst src ⌝ }
 {
-    plans::one(Code::Byte(base))
-}
-
-pub fn encode_group_prefixes(base: u8, insn: InstructionData) -> Plan
-    ensures { λ r. ⌜ r ≡ singlePlan base insn ⌝ }
-{
-    plans::one(Code::Byte(base))
-}
-
-pub fn encode_group_int(_base: u8, insn: InstructionData) -> Plan
-    ensures { λ r. ⌜ r ≡ interruptPlan insn ⌝ }
-{
-    let dst = insn.opers[0];
     let kind = dst.kind;
+    let jmp_kind = dst.jmp_kind;
+    plans::plain(short_form(kind, jmp_kind, Line::InvalidOperands))
+}
+
+pub fn encode_group_no_operands(dst: OperandData, src: OperandData) -> Decision
+    ensures { λ r. ⌜ r ≡ decisionIn G.NoOperands zero dst src ⌝ }
+{
+    plans::plain(Line::Single)
+}
+
+pub fn encode_group_prefixes(dst: OperandData, src: OperandData) -> Decision
+    ensures { λ r. ⌜ r ≡ decisionIn G.Prefixes zero dst src ⌝ }
+{
+    plans::plain(Line::Single)
+}
+
+fn int_form(kind: OperandKind) -> Line
+    ensures { λ r. ⌜ r ≡ intForm kind ⌝ }
+{
     match kind {
-        OperandKind::Imm => plans::two(Code::Byte(0xCD), Code::ImmByte(FIRST_OPER_DST)),
-        OperandKind::Reg => Plan::Refused(Why::InvalidOperands, At::First),
-        OperandKind::Seg => Plan::Refused(Why::InvalidOperands, At::First),
-        OperandKind::Mem => Plan::Refused(Why::InvalidOperands, At::First),
+        OperandKind::Imm => Line::IntImm,
+        OperandKind::Reg => Line::InvalidFirst,
+        OperandKind::Seg => Line::InvalidFirst,
+        OperandKind::Mem => Line::InvalidFirst,
     }
 }
 
-pub fn encode_group_aam(_base: u8, insn: InstructionData) -> Plan
-    ensures { λ r. ⌜ r ≡ adjustPlan 0xD4 insn ⌝ }
+pub fn encode_group_int(dst: OperandData, src: OperandData) -> Decision
+    ensures { λ r. ⌜ r ≡ decisionIn G.Int zero dst src ⌝ }
 {
-    plans::two(Code::Byte(0xD4), Code::Byte(0x0A))
+    let kind = dst.kind;
+    plans::plain(int_form(kind))
 }
 
-pub fn encode_group_aad(_base: u8, insn: InstructionData) -> Plan
-    ensures { λ r. ⌜ r ≡ adjustPlan 0xD5 insn ⌝ }
+pub fn encode_group_aam(dst: OperandData, src: OperandData) -> Decision
+    ensures { λ r. ⌜ r ≡ decisionIn G.Aam zero dst src ⌝ }
 {
-    plans::two(Code::Byte(0xD5), Code::Byte(0x0A))
+    plans::plain(Line::Aam)
+}
+
+pub fn encode_group_aad(dst: OperandData, src: OperandData) -> Decision
+    ensures { λ r. ⌜ r ≡ decisionIn G.Aad zero dst src ⌝ }
+{
+    plans::plain(Line::Aad)
 }

@@ -1,486 +1,352 @@
-// Data transfer of 000: MOV, XCHG, PUSH, POP, LEA, LES, LDS, XLATB, IN, OUT. Each function answers the code list of the form that it takes.
+// Data transfer of 000: MOV, XCHG, PUSH, POP, LEA, LES, LDS, XLATB, IN, OUT. Each function decides which form of the table a record takes.
 ghost use mathlib.Core.Path.{_≡_};
-ghost use Rattle.mrc_compiler.specs.declared.encoder.OperandSize.the-variants as S;
-ghost use Rattle.plans.specs.Blocks.{movePlan, moveSized, exchangePlan, exchangeSized, pushPlan, popPlan, loadPlan, translatePlan, inputPlan, outputPlan};
-use mrc_compiler::encoder;
-use mrc_compiler::encoder::InstructionData;
+ghost use Prim.Native.Nat.{zero};
+ghost use Rattle.groups.specs.declared.Group.the-variants as G;
+ghost use Rattle.plans.specs.Decisions.{isAx, sregForm, intoSregForm, movForm, xchgForm, pushForm, popForm, loadForm, xlatForm, portForm, portDecision, decisionIn};
+use mrc_compiler::ast::DataSize;
+use mrc_compiler::ast::OptionDataSize;
+use mrc_compiler::encoder::OperandData;
 use mrc_compiler::encoder::OperandKind;
-use mrc_compiler::encoder::OperandSize;
-use mrc_compiler::encoder::generate::At;
-use mrc_compiler::encoder::generate::Code;
-use mrc_compiler::encoder::generate::FIRST_OPER_DST;
-use mrc_compiler::encoder::generate::FIRST_OPER_SRC;
-use mrc_compiler::encoder::generate::Plan;
-use mrc_compiler::encoder::generate::Why;
 use plans::Common;
+use plans::Decision;
+use plans::Line;
 
-pub fn encode_group_mov(_base: u8, insn: InstructionData) -> Plan
-    ensures { λ r. ⌜ r ≡ movePlan insn ⌝ }
+// A segment register is a word.
+fn sreg_form(size: DataSize) -> Line
+    ensures { λ r. ⌜ r ≡ sregForm size ⌝ }
 {
-    let dst = insn.opers[0];
-    let src = insn.opers[1];
-    let dst_size = dst.size;
-    let src_size = src.size;
-    let size = plans::common_operand_size(dst_size, src_size);
     match size {
-        Common::Byte => mov_byte(insn),
-        Common::Word => mov_word(insn),
-        Common::NotSpecified => Plan::Refused(Why::OperandSizeNotSpecified, At::Operands),
-        Common::DoNotMatch => Plan::Refused(Why::OperandSizesDoNotMatch, At::Operands),
+        DataSize::Byte => Line::InvalidOperands,
+        DataSize::Word => Line::MovRmSreg,
     }
 }
 
-// The forms of bytes. A direct address beside AL takes A0 or A2.
-fn mov_byte(insn: InstructionData) -> Plan
-    ensures { λ r. ⌜ r ≡ moveSized S.Byte insn ⌝ }
+// Into a segment register: never into CS.
+fn into_sreg_form(size: DataSize, src: OperandKind, cs: bool) -> Line
+    ensures { λ r. ⌜ r ≡ intoSregForm size src cs ⌝ }
 {
-    let dst = insn.opers[0];
-    let src = insn.opers[1];
-    let dst_kind = dst.kind;
-    let src_kind = src.kind;
-    match dst_kind {
-        OperandKind::Imm => Plan::Refused(Why::InvalidOperands, At::Operands),
-        OperandKind::Reg => match src_kind {
-            OperandKind::Imm => plans::two(
-                Code::RegByte(FIRST_OPER_DST, 0xB0),
-                Code::ImmByte(FIRST_OPER_SRC),
-            ),
-            OperandKind::Reg => plans::one(Code::ModRegRM(FIRST_OPER_DST, 0x88)),
-            OperandKind::Seg => Plan::Refused(Why::InvalidOperands, At::Operands),
-            OperandKind::Mem => {
-                if plans::is_zero(dst.rm) {
-                    if encoder::is_direct_address(src.mode, src.rm) {
-                        plans::two(
-                            Code::MemByte(FIRST_OPER_SRC, 0xA0),
-                            Code::DispWord(FIRST_OPER_SRC),
-                        )
-                    } else {
-                        plans::one(Code::ModRegRM(FIRST_OPER_SRC, 0x8A))
-                    }
-                } else {
-                    plans::one(Code::ModRegRM(FIRST_OPER_SRC, 0x8A))
-                }
-            },
-        },
-        OperandKind::Seg => Plan::Refused(Why::InvalidOperands, At::Operands),
-        OperandKind::Mem => match src_kind {
-            OperandKind::Imm => plans::two(
-                Code::ModRM(FIRST_OPER_DST, 0xC6, 0),
-                Code::ImmSignedByte(FIRST_OPER_SRC),
-            ),
-            OperandKind::Reg => {
-                if encoder::is_direct_address(dst.mode, dst.rm) {
-                    if plans::is_zero(src.rm) {
-                        plans::two(
-                            Code::MemByte(FIRST_OPER_DST, 0xA2),
-                            Code::DispWord(FIRST_OPER_DST),
-                        )
-                    } else {
-                        plans::one(Code::ModRegRM(FIRST_OPER_DST, 0x88))
-                    }
-                } else {
-                    plans::one(Code::ModRegRM(FIRST_OPER_DST, 0x88))
-                }
-            },
-            OperandKind::Seg => Plan::Refused(Why::InvalidOperands, At::Operands),
-            OperandKind::Mem => Plan::Refused(Why::InvalidOperands, At::Operands),
-        },
-    }
-}
-
-// The forms of words, those of segment registers among them: never into CS.
-fn mov_word(insn: InstructionData) -> Plan
-    ensures { λ r. ⌜ r ≡ moveSized S.Word insn ⌝ }
-{
-    let dst = insn.opers[0];
-    let src = insn.opers[1];
-    let dst_kind = dst.kind;
-    let src_kind = src.kind;
-    match dst_kind {
-        OperandKind::Imm => Plan::Refused(Why::InvalidOperands, At::Operands),
-        OperandKind::Reg => match src_kind {
-            OperandKind::Imm => plans::two(
-                Code::RegByte(FIRST_OPER_DST, 0xB8),
-                Code::ImmWord(FIRST_OPER_SRC),
-            ),
-            OperandKind::Reg => plans::one(Code::ModRegRM(FIRST_OPER_DST, 0x89)),
-            OperandKind::Seg => plans::one(Code::ModRegRM(FIRST_OPER_DST, 0x8C)),
-            OperandKind::Mem => {
-                if plans::is_zero(dst.rm) {
-                    if encoder::is_direct_address(src.mode, src.rm) {
-                        plans::two(
-                            Code::MemByte(FIRST_OPER_SRC, 0xA1),
-                            Code::DispWord(FIRST_OPER_SRC),
-                        )
-                    } else {
-                        plans::one(Code::ModRegRM(FIRST_OPER_SRC, 0x8B))
-                    }
-                } else {
-                    plans::one(Code::ModRegRM(FIRST_OPER_SRC, 0x8B))
-                }
-            },
-        },
-        OperandKind::Seg => {
-            if plans::is_cs(dst.rm) {
-                Plan::Refused(Why::InvalidOperands, At::Operands)
+    match size {
+        DataSize::Byte => Line::InvalidOperands,
+        DataSize::Word => {
+            if cs {
+                Line::InvalidOperands
             } else {
-                match src_kind {
-                    OperandKind::Imm => Plan::Refused(Why::InvalidOperands, At::Operands),
-                    OperandKind::Reg => plans::one(Code::ModRegRM(FIRST_OPER_SRC, 0x8E)),
-                    OperandKind::Seg => Plan::Refused(Why::InvalidOperands, At::Operands),
-                    OperandKind::Mem => plans::one(Code::ModRegRM(FIRST_OPER_SRC, 0x8E)),
+                match src {
+                    OperandKind::Imm => Line::InvalidOperands,
+                    OperandKind::Reg => Line::MovSregRm,
+                    OperandKind::Seg => Line::InvalidOperands,
+                    OperandKind::Mem => Line::MovSregRm,
                 }
             }
         },
-        OperandKind::Mem => match src_kind {
-            OperandKind::Imm => plans::two(
-                Code::ModRM(FIRST_OPER_DST, 0xC7, 0),
-                Code::ImmSignedWord(FIRST_OPER_SRC),
-            ),
-            OperandKind::Reg => {
-                if encoder::is_direct_address(dst.mode, dst.rm) {
-                    if plans::is_zero(src.rm) {
-                        plans::two(
-                            Code::MemByte(FIRST_OPER_DST, 0xA3),
-                            Code::DispWord(FIRST_OPER_DST),
-                        )
-                    } else {
-                        plans::one(Code::ModRegRM(FIRST_OPER_DST, 0x89))
-                    }
+    }
+}
+
+// By kinds: from and into, AL or AX beside a direct address; cs, the first is CS.
+fn mov_form(
+    size: DataSize,
+    dst: OperandKind,
+    src: OperandKind,
+    from: bool,
+    into: bool,
+    cs: bool,
+) -> Line
+    ensures { λ r. ⌜ r ≡ movForm size dst src from into cs ⌝ }
+{
+    match dst {
+        OperandKind::Imm => Line::InvalidOperands,
+        OperandKind::Reg => match src {
+            OperandKind::Imm => Line::MovRegImm,
+            OperandKind::Reg => Line::MovRmReg,
+            OperandKind::Seg => sreg_form(size),
+            OperandKind::Mem => {
+                if from {
+                    Line::MovAccMoffs
                 } else {
-                    plans::one(Code::ModRegRM(FIRST_OPER_DST, 0x89))
+                    Line::MovRegRm
                 }
             },
-            OperandKind::Seg => plans::one(Code::ModRegRM(FIRST_OPER_DST, 0x8C)),
-            OperandKind::Mem => Plan::Refused(Why::InvalidOperands, At::Operands),
+        },
+        OperandKind::Seg => into_sreg_form(size, src, cs),
+        OperandKind::Mem => match src {
+            OperandKind::Imm => Line::MovRmImm,
+            OperandKind::Reg => {
+                if into {
+                    Line::MovMoffsAcc
+                } else {
+                    Line::MovRmReg
+                }
+            },
+            OperandKind::Seg => sreg_form(size),
+            OperandKind::Mem => Line::InvalidOperands,
         },
     }
 }
 
-pub fn encode_group_xchg(_base: u8, insn: InstructionData) -> Plan
-    ensures { λ r. ⌜ r ≡ exchangePlan insn ⌝ }
+pub fn encode_group_mov(dst: OperandData, src: OperandData) -> Decision
+    ensures { λ r. ⌜ r ≡ decisionIn G.Mov zero dst src ⌝ }
 {
-    let dst = insn.opers[0];
-    let src = insn.opers[1];
     let dst_size = dst.size;
     let src_size = src.size;
-    let size = plans::common_operand_size(dst_size, src_size);
+    let dst_kind = dst.kind;
+    let src_kind = src.kind;
+    match plans::common_operand_size(dst_size, src_size) {
+        Common::Is(size) => {
+            let from = plans::is_acc_direct(dst.rm, src.mode, src.rm);
+            let into = plans::is_acc_direct(src.rm, dst.mode, dst.rm);
+            let cs = plans::is_cs(dst.rm);
+            let line = mov_form(size, dst_kind, src_kind, from, into, cs);
+            Decision { line, size }
+        },
+        Common::NotSpecified => plans::plain(Line::SizeNotSpecified),
+        Common::DoNotMatch => plans::plain(Line::SizesDoNotMatch),
+    }
+}
+
+fn is_ax(size: DataSize, rm: u8) -> bool
+    ensures { λ r. ⌜ r ≡ isAx size rm ⌝ }
+{
     match size {
-        Common::Byte => xchg_byte(insn),
-        Common::Word => xchg_word(insn),
-        Common::NotSpecified => Plan::Refused(Why::OperandSizeNotSpecified, At::Operands),
-        Common::DoNotMatch => Plan::Refused(Why::OperandSizesDoNotMatch, At::Operands),
+        DataSize::Byte => false,
+        DataSize::Word => rm == 0,
     }
 }
 
-// Of two registers the first stands in reg; memory stands in r/m.
-fn xchg_byte(insn: InstructionData) -> Plan
-    ensures { λ r. ⌜ r ≡ exchangeSized S.Byte insn ⌝ }
+// Of two registers the first stands in reg, but AX with a register takes 90 + register; memory stands in r/m.
+fn xchg_form(dst: OperandKind, src: OperandKind, dst_ax: bool, src_ax: bool) -> Line
+    ensures { λ r. ⌜ r ≡ xchgForm dst src «dst_ax» «src_ax» ⌝ }
 {
-    let dst = insn.opers[0];
-    let src = insn.opers[1];
-    let dst_kind = dst.kind;
-    let src_kind = src.kind;
-    match dst_kind {
-        OperandKind::Imm => match src_kind {
-            OperandKind::Imm => Plan::Refused(Why::InvalidOperands, At::Operands),
-            OperandKind::Reg => Plan::Refused(Why::InvalidOperands, At::Operands),
-            OperandKind::Seg => Plan::Refused(Why::InvalidOperands, At::Operands),
-            OperandKind::Mem => Plan::Refused(Why::InvalidOperands, At::Operands),
-        },
-        OperandKind::Reg => match src_kind {
-            OperandKind::Imm => Plan::Refused(Why::InvalidOperands, At::Operands),
-            OperandKind::Reg => plans::one(Code::ModRegRM(FIRST_OPER_SRC, 0x86)),
-            OperandKind::Seg => Plan::Refused(Why::InvalidOperands, At::Operands),
-            OperandKind::Mem => plans::one(Code::ModRegRM(FIRST_OPER_SRC, 0x86)),
-        },
-        OperandKind::Seg => match src_kind {
-            OperandKind::Imm => Plan::Refused(Why::InvalidOperands, At::Operands),
-            OperandKind::Reg => Plan::Refused(Why::InvalidOperands, At::Operands),
-            OperandKind::Seg => Plan::Refused(Why::InvalidOperands, At::Operands),
-            OperandKind::Mem => Plan::Refused(Why::InvalidOperands, At::Operands),
-        },
-        OperandKind::Mem => match src_kind {
-            OperandKind::Imm => Plan::Refused(Why::InvalidOperands, At::Operands),
-            OperandKind::Reg => plans::one(Code::ModRegRM(FIRST_OPER_DST, 0x86)),
-            OperandKind::Seg => Plan::Refused(Why::InvalidOperands, At::Operands),
-            OperandKind::Mem => Plan::Refused(Why::InvalidOperands, At::Operands),
-        },
-    }
-}
-
-// The same for words; AX with a register takes 90 + register.
-fn xchg_word(insn: InstructionData) -> Plan
-    ensures { λ r. ⌜ r ≡ exchangeSized S.Word insn ⌝ }
-{
-    let dst = insn.opers[0];
-    let src = insn.opers[1];
-    let dst_kind = dst.kind;
-    let src_kind = src.kind;
-    match dst_kind {
-        OperandKind::Imm => match src_kind {
-            OperandKind::Imm => Plan::Refused(Why::InvalidOperands, At::Operands),
-            OperandKind::Reg => Plan::Refused(Why::InvalidOperands, At::Operands),
-            OperandKind::Seg => Plan::Refused(Why::InvalidOperands, At::Operands),
-            OperandKind::Mem => Plan::Refused(Why::InvalidOperands, At::Operands),
-        },
-        OperandKind::Reg => match src_kind {
-            OperandKind::Imm => Plan::Refused(Why::InvalidOperands, At::Operands),
+    match dst {
+        OperandKind::Imm => Line::InvalidOperands,
+        OperandKind::Reg => match src {
+            OperandKind::Imm => Line::InvalidOperands,
             OperandKind::Reg => {
-                if plans::is_zero(dst.rm) {
-                    plans::one(Code::RegByte(FIRST_OPER_SRC, 0x90))
+                if dst_ax {
+                    Line::XchgAccReg
                 } else {
-                    if plans::is_zero(src.rm) {
-                        plans::one(Code::RegByte(FIRST_OPER_DST, 0x90))
+                    if src_ax {
+                        Line::XchgRegAcc
                     } else {
-                        plans::one(Code::ModRegRM(FIRST_OPER_SRC, 0x87))
+                        Line::XchgRegRm
                     }
                 }
             },
-            OperandKind::Seg => Plan::Refused(Why::InvalidOperands, At::Operands),
-            OperandKind::Mem => plans::one(Code::ModRegRM(FIRST_OPER_SRC, 0x87)),
+            OperandKind::Seg => Line::InvalidOperands,
+            OperandKind::Mem => Line::XchgRegRm,
         },
-        OperandKind::Seg => match src_kind {
-            OperandKind::Imm => Plan::Refused(Why::InvalidOperands, At::Operands),
-            OperandKind::Reg => Plan::Refused(Why::InvalidOperands, At::Operands),
-            OperandKind::Seg => Plan::Refused(Why::InvalidOperands, At::Operands),
-            OperandKind::Mem => Plan::Refused(Why::InvalidOperands, At::Operands),
-        },
-        OperandKind::Mem => match src_kind {
-            OperandKind::Imm => Plan::Refused(Why::InvalidOperands, At::Operands),
-            OperandKind::Reg => plans::one(Code::ModRegRM(FIRST_OPER_DST, 0x87)),
-            OperandKind::Seg => Plan::Refused(Why::InvalidOperands, At::Operands),
-            OperandKind::Mem => Plan::Refused(Why::InvalidOperands, At::Operands),
+        OperandKind::Seg => Line::InvalidOperands,
+        OperandKind::Mem => match src {
+            OperandKind::Imm => Line::InvalidOperands,
+            OperandKind::Reg => Line::XchgRmReg,
+            OperandKind::Seg => Line::InvalidOperands,
+            OperandKind::Mem => Line::InvalidOperands,
         },
     }
 }
 
-pub fn encode_group_push(_base: u8, insn: InstructionData) -> Plan
-    ensures { λ r. ⌜ r ≡ pushPlan insn ⌝ }
+pub fn encode_group_xchg(dst: OperandData, src: OperandData) -> Decision
+    ensures { λ r. ⌜ r ≡ decisionIn G.Xchg zero dst src ⌝ }
 {
-    let dst = insn.opers[0];
-    let size = dst.size;
-    let kind = dst.kind;
+    let dst_size = dst.size;
+    let src_size = src.size;
+    let dst_kind = dst.kind;
+    let src_kind = src.kind;
+    match plans::common_operand_size(dst_size, src_size) {
+        Common::Is(size) => {
+            let dst_ax = is_ax(size, dst.rm);
+            let src_ax = is_ax(size, src.rm);
+            let line = xchg_form(dst_kind, src_kind, dst_ax, src_ax);
+            Decision { line, size }
+        },
+        Common::NotSpecified => plans::plain(Line::SizeNotSpecified),
+        Common::DoNotMatch => plans::plain(Line::SizesDoNotMatch),
+    }
+}
+
+fn push_form(kind: OperandKind, word: bool) -> Line
+    ensures { λ r. ⌜ r ≡ pushForm kind word ⌝ }
+{
     match kind {
-        OperandKind::Imm => Plan::Refused(Why::InvalidOperands, At::First),
-        OperandKind::Reg => match size {
-            OperandSize::Unspecified => Plan::Refused(Why::InvalidOperands, At::First),
-            OperandSize::Byte => Plan::Refused(Why::InvalidOperands, At::First),
-            OperandSize::Word => plans::one(Code::RegByte(FIRST_OPER_DST, 0x50)),
-        },
-        OperandKind::Seg => plans::one(Code::SegByte(FIRST_OPER_DST, 0x06)),
-        OperandKind::Mem => match size {
-            OperandSize::Unspecified => Plan::Refused(Why::InvalidOperands, At::First),
-            OperandSize::Byte => Plan::Refused(Why::InvalidOperands, At::First),
-            OperandSize::Word => Plan::Refused(Why::NotSupported, At::Operands),
-        },
-    }
-}
-
-pub fn encode_group_pop(_base: u8, insn: InstructionData) -> Plan
-    ensures { λ r. ⌜ r ≡ popPlan insn ⌝ }
-{
-    let dst = insn.opers[0];
-    let size = dst.size;
-    let kind = dst.kind;
-    match size {
-        OperandSize::Unspecified => Plan::Refused(Why::InvalidOperandSize, At::First),
-        OperandSize::Byte => Plan::Refused(Why::InvalidOperandSize, At::First),
-        OperandSize::Word => match kind {
-            OperandKind::Imm => Plan::Refused(Why::InvalidOperandSize, At::First),
-            OperandKind::Reg => plans::one(Code::RegByte(FIRST_OPER_DST, 0x58)),
-            OperandKind::Seg => {
-                if plans::is_cs(dst.rm) {
-                    Plan::Refused(Why::InvalidOperands, At::Operands)
-                } else {
-                    plans::one(Code::SegByte(FIRST_OPER_DST, 0x07))
-                }
-            },
-            OperandKind::Mem => Plan::Refused(Why::NotSupported, At::Operands),
-        },
-    }
-}
-
-pub fn encode_group_lea(base: u8, insn: InstructionData) -> Plan
-    ensures { λ r. ⌜ r ≡ loadPlan base insn ⌝ }
-{
-    let dst = insn.opers[0];
-    let src = insn.opers[1];
-    let dst_kind = dst.kind;
-    let dst_size = dst.size;
-    let src_kind = src.kind;
-    match dst_kind {
-        OperandKind::Imm => Plan::Refused(Why::InvalidOperands, At::Operands),
-        OperandKind::Reg => match dst_size {
-            OperandSize::Unspecified => Plan::Refused(Why::InvalidOperands, At::Operands),
-            OperandSize::Byte => Plan::Refused(Why::InvalidOperands, At::Operands),
-            OperandSize::Word => match src_kind {
-                OperandKind::Imm => Plan::Refused(Why::InvalidOperands, At::Operands),
-                OperandKind::Reg => Plan::Refused(Why::InvalidOperands, At::Operands),
-                OperandKind::Seg => Plan::Refused(Why::InvalidOperands, At::Operands),
-                OperandKind::Mem => plans::one(Code::ModRegRM(FIRST_OPER_SRC, base)),
-            },
-        },
-        OperandKind::Seg => Plan::Refused(Why::InvalidOperands, At::Operands),
-        OperandKind::Mem => Plan::Refused(Why::InvalidOperands, At::Operands),
-    }
-}
-
-pub fn encode_group_les_lds(base: u8, insn: InstructionData) -> Plan
-    ensures { λ r. ⌜ r ≡ loadPlan base insn ⌝ }
-{
-    encode_group_lea(base, insn)
-}
-
-pub fn encode_group_xlat(_base: u8, insn: InstructionData) -> Plan
-    ensures { λ r. ⌜ r ≡ translatePlan insn ⌝ }
-{
-    let dst = insn.opers[0];
-    let size = dst.size;
-    let kind = dst.kind;
-    match size {
-        OperandSize::Unspecified => Plan::Refused(Why::InvalidOperandSize, At::First),
-        OperandSize::Byte => Plan::Refused(Why::InvalidOperandSize, At::First),
-        OperandSize::Word => match kind {
-            OperandKind::Imm => Plan::Refused(Why::InvalidOperands, At::Operands),
-            OperandKind::Reg => Plan::Refused(Why::InvalidOperands, At::Operands),
-            OperandKind::Seg => Plan::Refused(Why::InvalidOperands, At::Operands),
-            OperandKind::Mem => {
-                if plans::is_bx(dst.mode, dst.rm) {
-                    plans::one(Code::MemByte(FIRST_OPER_DST, 0xD7))
-                } else {
-                    Plan::Refused(Why::InvalidOperands, At::Operands)
-                }
-            },
-        },
-    }
-}
-
-pub fn encode_group_in(_base: u8, insn: InstructionData) -> Plan
-    ensures { λ r. ⌜ r ≡ inputPlan insn ⌝ }
-{
-    let dst = insn.opers[0];
-    let src = insn.opers[1];
-    let dst_kind = dst.kind;
-    let dst_size = dst.size;
-    let src_kind = src.kind;
-    let src_size = src.size;
-    match dst_kind {
-        OperandKind::Imm => Plan::Refused(Why::InvalidOperands, At::Operands),
-        OperandKind::Reg => match dst_size {
-            OperandSize::Unspecified => Plan::Refused(Why::InvalidOperands, At::Operands),
-            OperandSize::Byte => {
-                if plans::is_zero(dst.rm) {
-                    match src_kind {
-                        OperandKind::Imm => plans::two(
-                            Code::Byte(0xE4),
-                            Code::ImmByte(FIRST_OPER_SRC),
-                        ),
-                        OperandKind::Reg => {
-                            if plans::is_dx(src_size, src.rm) {
-                                plans::one(Code::Byte(0xEC))
-                            } else {
-                                Plan::Refused(Why::InvalidOperands, At::Operands)
-                            }
-                        },
-                        OperandKind::Seg => Plan::Refused(Why::InvalidOperands, At::Operands),
-                        OperandKind::Mem => Plan::Refused(Why::InvalidOperands, At::Operands),
-                    }
-                } else {
-                    Plan::Refused(Why::InvalidOperands, At::Operands)
-                }
-            },
-            OperandSize::Word => {
-                if plans::is_zero(dst.rm) {
-                    match src_kind {
-                        OperandKind::Imm => plans::two(
-                            Code::Byte(0xE5),
-                            Code::ImmByte(FIRST_OPER_SRC),
-                        ),
-                        OperandKind::Reg => {
-                            if plans::is_dx(src_size, src.rm) {
-                                plans::one(Code::Byte(0xED))
-                            } else {
-                                Plan::Refused(Why::InvalidOperands, At::Operands)
-                            }
-                        },
-                        OperandKind::Seg => Plan::Refused(Why::InvalidOperands, At::Operands),
-                        OperandKind::Mem => Plan::Refused(Why::InvalidOperands, At::Operands),
-                    }
-                } else {
-                    Plan::Refused(Why::InvalidOperands, At::Operands)
-                }
-            },
-        },
-        OperandKind::Seg => Plan::Refused(Why::InvalidOperands, At::Operands),
-        OperandKind::Mem => Plan::Refused(Why::InvalidOperands, At::Operands),
-    }
-}
-
-pub fn encode_group_out(_base: u8, insn: InstructionData) -> Plan
-    ensures { λ r. ⌜ r ≡ outputPlan insn ⌝ }
-{
-    let dst = insn.opers[0];
-    let src = insn.opers[1];
-    let dst_kind = dst.kind;
-    let dst_size = dst.size;
-    let src_kind = src.kind;
-    let src_size = src.size;
-    match dst_kind {
-        OperandKind::Imm => match src_kind {
-            OperandKind::Imm => Plan::Refused(Why::InvalidOperands, At::Operands),
-            OperandKind::Reg => match src_size {
-                OperandSize::Unspecified => Plan::Refused(Why::InvalidOperands, At::Operands),
-                OperandSize::Byte => {
-                    if plans::is_zero(src.rm) {
-                        plans::two(Code::Byte(0xE6), Code::ImmByte(FIRST_OPER_DST))
-                    } else {
-                        Plan::Refused(Why::InvalidOperands, At::Operands)
-                    }
-                },
-                OperandSize::Word => {
-                    if plans::is_zero(src.rm) {
-                        plans::two(Code::Byte(0xE7), Code::ImmByte(FIRST_OPER_DST))
-                    } else {
-                        Plan::Refused(Why::InvalidOperands, At::Operands)
-                    }
-                },
-            },
-            OperandKind::Seg => Plan::Refused(Why::InvalidOperands, At::Operands),
-            OperandKind::Mem => Plan::Refused(Why::InvalidOperands, At::Operands),
-        },
+        OperandKind::Imm => Line::InvalidFirst,
         OperandKind::Reg => {
-            if plans::is_dx(dst_size, dst.rm) {
-                match src_kind {
-                    OperandKind::Imm => Plan::Refused(Why::InvalidOperands, At::Operands),
-                    OperandKind::Reg => match src_size {
-                        OperandSize::Unspecified => Plan::Refused(
-                            Why::InvalidOperands,
-                            At::Operands,
-                        ),
-                        OperandSize::Byte => {
-                            if plans::is_zero(src.rm) {
-                                plans::one(Code::Byte(0xEE))
-                            } else {
-                                Plan::Refused(Why::InvalidOperands, At::Operands)
-                            }
-                        },
-                        OperandSize::Word => {
-                            if plans::is_zero(src.rm) {
-                                plans::one(Code::Byte(0xEF))
-                            } else {
-                                Plan::Refused(Why::InvalidOperands, At::Operands)
-                            }
-                        },
-                    },
-                    OperandKind::Seg => Plan::Refused(Why::InvalidOperands, At::Operands),
-                    OperandKind::Mem => Plan::Refused(Why::InvalidOperands, At::Operands),
-                }
+            if word {
+                Line::PushReg
             } else {
-                Plan::Refused(Why::InvalidOperands, At::Operands)
+                Line::InvalidFirst
             }
         },
-        OperandKind::Seg => Plan::Refused(Why::InvalidOperands, At::Operands),
-        OperandKind::Mem => Plan::Refused(Why::InvalidOperands, At::Operands),
+        OperandKind::Seg => Line::PushSreg,
+        OperandKind::Mem => {
+            if word {
+                Line::LeftOpen
+            } else {
+                Line::InvalidFirst
+            }
+        },
     }
+}
+
+pub fn encode_group_push(dst: OperandData, src: OperandData) -> Decision
+    ensures { λ r. ⌜ r ≡ decisionIn G.Push zero dst src ⌝ }
+{
+    let size = dst.size;
+    let kind = dst.kind;
+    plans::plain(push_form(kind, plans::is_word(size)))
+}
+
+// A word; never CS.
+fn pop_form(kind: OperandKind, word: bool, cs: bool) -> Line
+    ensures { λ r. ⌜ r ≡ popForm kind word cs ⌝ }
+{
+    if word {
+        match kind {
+            OperandKind::Imm => Line::InvalidSize,
+            OperandKind::Reg => Line::PopReg,
+            OperandKind::Seg => {
+                if cs {
+                    Line::InvalidOperands
+                } else {
+                    Line::PopSreg
+                }
+            },
+            OperandKind::Mem => Line::LeftOpen,
+        }
+    } else {
+        Line::InvalidSize
+    }
+}
+
+pub fn encode_group_pop(dst: OperandData, src: OperandData) -> Decision
+    ensures { λ r. ⌜ r ≡ decisionIn G.Pop zero dst src ⌝ }
+{
+    let size = dst.size;
+    let kind = dst.kind;
+    plans::plain(pop_form(kind, plans::is_word(size), plans::is_cs(dst.rm)))
+}
+
+fn load_form(dst: OperandKind, word: bool, src: OperandKind) -> Line
+    ensures { λ r. ⌜ r ≡ loadForm dst word src ⌝ }
+{
+    match dst {
+        OperandKind::Imm => Line::InvalidOperands,
+        OperandKind::Reg => {
+            if word {
+                match src {
+                    OperandKind::Imm => Line::InvalidOperands,
+                    OperandKind::Reg => Line::InvalidOperands,
+                    OperandKind::Seg => Line::InvalidOperands,
+                    OperandKind::Mem => Line::LoadRegMem,
+                }
+            } else {
+                Line::InvalidOperands
+            }
+        },
+        OperandKind::Seg => Line::InvalidOperands,
+        OperandKind::Mem => Line::InvalidOperands,
+    }
+}
+
+pub fn encode_group_lea(dst: OperandData, src: OperandData) -> Decision
+    ensures { λ r. ⌜ r ≡ decisionIn G.Lea zero dst src ⌝ }
+{
+    let dst_size = dst.size;
+    let dst_kind = dst.kind;
+    let src_kind = src.kind;
+    plans::plain(load_form(dst_kind, plans::is_word(dst_size), src_kind))
+}
+
+pub fn encode_group_les_lds(dst: OperandData, src: OperandData) -> Decision
+    ensures { λ r. ⌜ r ≡ decisionIn G.LesLds zero dst src ⌝ }
+{
+    encode_group_lea(dst, src)
+}
+
+fn xlat_form(kind: OperandKind, word: bool, bx: bool) -> Line
+    ensures { λ r. ⌜ r ≡ xlatForm kind word bx ⌝ }
+{
+    if word {
+        match kind {
+            OperandKind::Imm => Line::InvalidOperands,
+            OperandKind::Reg => Line::InvalidOperands,
+            OperandKind::Seg => Line::InvalidOperands,
+            OperandKind::Mem => {
+                if bx {
+                    Line::XlatMem
+                } else {
+                    Line::InvalidOperands
+                }
+            },
+        }
+    } else {
+        Line::InvalidSize
+    }
+}
+
+pub fn encode_group_xlat(dst: OperandData, src: OperandData) -> Decision
+    ensures { λ r. ⌜ r ≡ decisionIn G.Xlat zero dst src ⌝ }
+{
+    let size = dst.size;
+    let kind = dst.kind;
+    plans::plain(xlat_form(kind, plans::is_word(size), plans::is_bx(dst.mode, dst.rm)))
+}
+
+// IN and OUT: the accumulator, and a port that is an immediate or DX.
+fn port_form(
+    by_imm: Line,
+    by_dx: Line,
+    acc: OperandKind,
+    zero: bool,
+    port: OperandKind,
+    dx: bool,
+) -> Line
+    ensures { λ r. ⌜ r ≡ portForm «by_imm» «by_dx» acc zero port dx ⌝ }
+{
+    match acc {
+        OperandKind::Imm => Line::InvalidOperands,
+        OperandKind::Reg => {
+            if zero {
+                match port {
+                    OperandKind::Imm => by_imm,
+                    OperandKind::Reg => { if dx { by_dx } else { Line::InvalidOperands } },
+                    OperandKind::Seg => Line::InvalidOperands,
+                    OperandKind::Mem => Line::InvalidOperands,
+                }
+            } else {
+                Line::InvalidOperands
+            }
+        },
+        OperandKind::Seg => Line::InvalidOperands,
+        OperandKind::Mem => Line::InvalidOperands,
+    }
+}
+
+// Of the accumulator's size.
+fn port_decision(by_imm: Line, by_dx: Line, acc: OperandData, port: OperandData) -> Decision
+    ensures { λ r. ⌜ r ≡ portDecision «by_imm» «by_dx» acc port ⌝ }
+{
+    let acc_size = acc.size;
+    let acc_kind = acc.kind;
+    let port_size = port.size;
+    let port_kind = port.kind;
+    match plans::stated_size(acc_size) {
+        OptionDataSize::None => plans::plain(Line::InvalidOperands),
+        OptionDataSize::Some(size) => {
+            let zero = plans::is_zero(acc.rm);
+            let dx = plans::is_dx(port_size, port.rm);
+            let line = port_form(by_imm, by_dx, acc_kind, zero, port_kind, dx);
+            Decision { line, size }
+        },
+    }
+}
+
+pub fn encode_group_in(dst: OperandData, src: OperandData) -> Decision
+    ensures { λ r. ⌜ r ≡ decisionIn G.In zero dst src ⌝ }
+{
+    port_decision(Line::InAccImm, Line::InAccDx, dst, src)
+}
+
+pub fn encode_group_out(dst: OperandData, src: OperandData) -> Decision
+    ensures { λ r. ⌜ r ≡ decisionIn G.Out zero dst src ⌝ }
+{
+    port_decision(Line::OutImmAcc, Line::OutDxAcc, src, dst)
 }

@@ -1,7 +1,9 @@
--- The group and base of each operation: the dispatch of 000.
+-- The group of each operation, of which document 01's questions speak, and its base: the dispatch of 000.
 -- Definitions only.
 use Rattle.mrc_compiler.specs.declared.operations.Operation.{Operation}
 use Rattle.mrc_compiler.specs.declared.operations.Operation.the-variants as Op
+use Prim.Native.Nat.{ℕ}
+use Rattle.groups.specs.declared.Group.{Group}
 use Rattle.groups.specs.declared.Group.the-variants as Gr
 use Rattle.groups.specs.declared.Grouped.{Grouped}
 
@@ -105,3 +107,9 @@ groupedOf Op.OUT = record { group = Gr.Out; base = 0x00 }
 groupedOf Op.INT1 = record { group = Gr.Unsupported; base = 0x00 }
 groupedOf Op.WAIT = record { group = Gr.Unsupported; base = 0x00 }
 groupedOf Op.ESC = record { group = Gr.Unsupported; base = 0x00 }
+
+abbrev pub groupOf : Operation → Group
+groupOf op = groupedOf op .group
+
+abbrev pub baseOf : Operation → ℕ
+baseOf op = groupedOf op .base

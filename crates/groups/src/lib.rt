@@ -1,11 +1,13 @@
-// Which group of 000 an operation is of: the first step of its dispatch, which the lister takes too.
+// The groups of operations: of them document 01's code list and questions speak, and each is a group function of 000.
 ghost use mathlib.Core.Path.{_≡_};
 ghost use Rattle.groups.specs.Grouping.{groupedOf};
 use mrc_compiler::operations::Operation;
 
-// The group functions of 000; Unsupported is its `op => todo!`.
 pub enum Group {
+    // ADD OR ADC SBB AND SUB XOR CMP.
     Arithmetic,
+
+    // NOT NEG MUL IMUL DIV IDIV.
     Unary,
     Mov,
     Test,
@@ -16,11 +18,17 @@ pub enum Group {
     Ret,
     Lea,
     LesLds,
+
+    // ROL ROR RCL RCR SHL SHR SAR.
     Shift,
     Call,
     Jmp,
     Jcc,
+
+    // LOOPNZ LOOPZ LOOP JCXZ.
     Loopc,
+
+    // The single bytes; LOCK REPNE REP.
     NoOperands,
     Prefixes,
     Int,
@@ -29,14 +37,18 @@ pub enum Group {
     Xlat,
     In,
     Out,
+
+    // INT1 WAIT ESC: the `op => todo!` of 000.
     Unsupported,
 }
 
+// An operation's group, and what tells it from the others of the group: an opcode, or a digit.
 pub struct Grouped {
     pub group: Group,
     pub base: u8,
 }
 
+// The first step of 000's dispatch, which the lister takes too.
 pub fn group_of(operation: Operation) -> Grouped
     ensures { λ r. ⌜ r ≡ groupedOf operation ⌝ }
 {

@@ -1,7 +1,7 @@
 -- The run of a candidate holds its string and spells its number.
 -- Assumes nothing.
 use mathlib.Core.Path.{_≡_, refl, sym, _∙_, ap, subst}
-use Prim.Native.Nat.{ℕ, _+_, _≤_, _<_}
+use Prim.Native.Nat.{ℕ, _+_, _-_, _/_, _%_, _≤_, _<_}
 use native.Mathlib.Omega.{arith}
 use native.Mathlib.Nat.{eq-or-lt-of-le, le-of-suc-le-suc}
 use native.Mathlib.Numerals.{add-one}
@@ -10,11 +10,13 @@ use mathlib.Core.Bool.{Bool, true, false}
 use mathlib.Core.List.{List, [], _∷_}
 use lib.ListN.{length, getD, set, take}
 use lib.Seq.{getD-set-same, getD-set-other}
+use borrow.Author.Tests.{lt-ltb, le-ltb}
 use Rattle.x86.specs.declared.Instruction.{Instruction}
 use Rattle.x86.specs.declared.Read.{Read}
 use Rattle.x86.specs.Reading.{reads}
 use Rattle.emitter.specs.declared.ByteRun.{ByteRun}
 use Rattle.emitter.specs.Run.{emptyRun, appended}
+use Rattle.listing.specs.Operands.{prefixOf}
 use Rattle.listing.specs.Candidates.{candidate}
 use Rattle.listing.specs.Entries.{entry, spelled, key, isWhole, readsAs, candidateKey}
 use Rattle.listing.proofs.Short.{candidate-short}
@@ -58,6 +60,21 @@ module _ (off : ℕ) (m : Instruction) (i : ℕ) (run : ByteRun) (e : run ≡ ap
 
   pub key-no : (r : Read) (b : Bool) → r ≡ reads off (take (run .len) (run .bytes)) → b ≡ isWhole r m (run .len) → b ≡ false → 0 ≡ candidateKey off m i
   key-no r b er eb t = rw (test-is r b er eb ∙ t)
+
+-- ---- without a prefix the last six candidates are the first six
+-- so many numbers are to be computed: twelve, or, without a prefix, at least six
+abbrev pub Enough : Instruction → ℕ → Type 0
+Enough m most = (6 ≤ most) × (most < 12 → prefixOf m ≡ 0)
+
+again : (off : ℕ) (m : Instruction) (i : ℕ) → 6 ≤ i → i < 12 → prefixOf m ≡ 0 → candidate off m (i - 6) ≡ candidate off m i
+unfolding candidate
+again off m i h l e =
+    let a : (i - 6) / 3 % 2 ≡ i / 3 % 2 = omega arith in
+    let b : (i - 6) % 3 ≡ i % 3 = omega arith in
+    rw (le-ltb i 6 h, lt-ltb (i - 6) 6 (omega arith), a, b, e) refl
+
+pub key-again : (off : ℕ) (m : Instruction) (i : ℕ) → 6 ≤ i → i < 12 → prefixOf m ≡ 0 → candidateKey off m (i - 6) ≡ candidateKey off m i
+key-again off m i h l e = rw (again off m i h l e) refl
 
 -- ---- the numbers of the first n candidates
 abbrev pub Filled : ℕ → Instruction → List ℕ → ℕ → Type 0

@@ -81,15 +81,25 @@ fn candidate_key(offset: u16, insn: Instruction, i: u8) -> u64
     0
 }
 
-// Writes the listing of an instruction at an offset, and answers how many entries it has. Twelve strings are read.
+// Writes the listing of an instruction at an offset, and answers how many entries it has. Twelve strings are read, or six where no prefix is possible: then
+// the other six are the same.
 fn list_instruction(offset: u16, insn: Instruction, out: &mut [u8]) -> usize
     requires { ⌜ 96 ≤ length (now out) ⌝ }
     ensures { λ r. ⌜ (r ≡ length (listing offset insn)) × (now (out .exit) ≡ entries (listing offset insn) ++ drop (8 * length (listing offset insn)) (now (out .entry))) ⌝ }
 {
     let mut keys: [u64; 12] = [0, 0, 0, 0, 0, 0, 0, 0, 0, 0, 0, 0];
     let mut i: usize = 0;
+    let most = if candidates::prefix_of(insn) == 0 {
+        6
+    } else {
+        12
+    };
     while i < 12 {
-        keys[i] = candidate_key(offset, insn, i as u8);
+        keys[i] = if i < most {
+            candidate_key(offset, insn, i as u8)
+        } else {
+            keys[i - 6]
+        };
         i += 1;
     }
     entries::write_entries(keys, out)

@@ -5,24 +5,26 @@ use Prim.Native.Nat.{ℕ, zero, suc, _+_, _%_, _≤_, _<_, zero-le}
 use native.Mathlib.Omega.{arith}
 use mathlib.Core.Bool.{Bool, true, false}
 use mathlib.Core.Logic.{_⊎_, inl, inr, ⊎-elim}
-use mathlib.Core.List.{List, [], _∷_, _++_, List·Memᴰ}
+use mathlib.Core.List.{List, [], _∷_, _++_, append-nil, List·Memᴰ}
 use lib.Dec.{T, eqb, eqb→eq, lit≤}
 use lib.ListN.{length, drop, length-drop}
 use borrow.Author.Tests.{eqb-true}
 use Rattle.mrc_compiler.specs.Choose.{pick, both, either, isnt}
 use Rattle.x86.specs.declared.Operand.{Operand}
 use Rattle.x86.specs.declared.Instruction.{Instruction}
-use Rattle.x86.specs.Forms.{Slot, rm, rm-near, mem, reg, sreg, sreg-not-cs, acc, low3, bits34, bits34-not-cs, CL, DX, one, moffs, xlat, ib, iw, ib-sx, cb, cw, ptr, nil, Extension, Form, forms}
+use Rattle.x86.specs.Forms.{Slot, Extension, Form, forms}
 use Rattle.x86.specs.Forms as F
 use Rattle.x86.specs.Reading.{Place, nowhere, by-modrm, by-address, by-bx-al, about, widthOf, displacementLength, mode, low, addressLength, hasSecond, headLength, memoryLength, tailLength, inMemory, somewhere, namesMemory, displacementAt, at, instructionOf, prefix}
 use Rattle.x86.specs.Listing.{Bytes}
 use Rattle.x86.proofs.Tests.{both-parts, eachOf, each-at}
-use Rattle.listing.specs.Operands.{prefixIn, displacementIn, valueIn, farSegmentIn, prefixOf, displacementOf, valueOf, farSegmentOf}
+use Rattle.x86.specs.Operands.{displacementIn, valueIn, farSegmentIn}
+use Rattle.listing.specs.Operands.{prefixIn, prefixOf, displacementOf, valueOf, farSegmentOf}
 use Rattle.listing.specs.Candidates.{displacementBytes, secondBytes, tailBytes}
 use Rattle.listing.specs.declared.Tail.{Tail}
 use Rattle.listing.specs.declared.Tail.the-variants as L
+use Rattle.listing.proofs.Choices.{either-parts}
 use Rattle.listing.proofs.ByForm.{secondFor, tailIn, joined, tailNumber, startBy}
-use Rattle.listing.proofs.Values.{displacement-back, displacement-small, displacement-at, prefix-at, near, immediateBytes, immediate-back, quiet, value-small}
+use Rattle.listing.proofs.Values.{displacement-back, displacement-small, immediateBytes, near, addressOnly, Holds, holds}
 use Rattle.listing.proofs.Sums.{canonical-sum}
 
 -- ---- what each form of the list has: one slot at most in memory, one at most with immediate bytes, and a near target alone behind its opcode
@@ -34,9 +36,9 @@ by-rm by-bx-al = false
 
 abbrev alone : Form → Slot → Bool
 alone f a =
-    either (eqb (near a) 0)
+    either (eqb (near (tailIn a)) 0)
     (both (isnt (hasSecond (f .extension)))
-    (both (eqb (1 + (about (f .first) .takes + about (f .second) .takes)) (near a))
+    (both (eqb (1 + (about (f .first) .takes + about (f .second) .takes)) (near (tailIn a)))
     (both (isnt (somewhere (about (f .first) .place))) (isnt (somewhere (about (f .second) .place))))))
 
 abbrev onePlace : Form → Bool
@@ -71,12 +73,8 @@ all-ended : T (eachOf ended forms)
 unfolding forms
 all-ended = tt
 
-either-parts : (a b : Bool) → T (either a b) → T a ⊎ T b
-either-parts true b t = inl tt
-either-parts false b t = inr t
-
-absent : (l : Place) → T (isnt (somewhere l)) → (x : ℕ) → (addressLength l x ≡ 0) × (inMemory l x ≡ false)
-absent nowhere t x = (refl, refl)
+absent : (l : Place) → T (isnt (somewhere l)) → (x : ℕ) → (addressLength l x ≡ 0) × (inMemory l x ≡ false) × (addressOnly l ≡ 0)
+absent nowhere t x = (refl, refl, refl)
 absent by-modrm t x = absurd t
 absent by-address t x = absurd t
 absent by-bx-al t x = absurd t
@@ -94,10 +92,6 @@ address-le by-bx-al x = zero-le
 one-displacement : (i j : ℕ) (t : List ℕ) → (i ≡ 0) ⊎ (j ≡ 0) → displacementAt i t + displacementAt j t ≡ displacementAt (i + j) t
 one-displacement i j t (inl e) = let d : i + j ≡ j = omega arith in rw (d, e) (omega arith)
 one-displacement i j t (inr e) = let d : i + j ≡ i = omega arith in rw (d, e) (omega arith)
-
-append-none : (s : List ℕ) → s ++ [] ≡ s
-append-none [] = refl
-append-none (a ∷ s) = ap (λ (l : List ℕ). a ∷ l) (append-none s)
 
 bytes-drop : (n : ℕ) (s : List ℕ) → Bytes s → Bytes (drop n s)
 bytes-drop zero s bs = bs
@@ -120,70 +114,7 @@ one-prefix p true false n e = omega arith
 one-prefix p false true n e = omega arith
 one-prefix p false false n e = let z : _≡_ {A = ℕ} 0 1 = cc in absurd (omega arith)
 
--- ---- the tail of a slot: its address, where that is no displacement, and its immediate
-abbrev addressOnly : Place → ℕ
-addressOnly nowhere = 0
-addressOnly by-modrm = 0
-addressOnly by-address = 2
-addressOnly by-bx-al = 0
-
-slot-tail : (a : Slot) (off d v s : ℕ) → tailBytes (tailIn a) off d v s ≡ displacementBytes (addressOnly (about a .place)) d ++ immediateBytes a off v s
-slot-tail (rm w) off d v s = refl
-slot-tail rm-near off d v s = refl
-slot-tail mem off d v s = refl
-slot-tail (reg w) off d v s = refl
-slot-tail sreg off d v s = refl
-slot-tail sreg-not-cs off d v s = refl
-slot-tail (acc w) off d v s = refl
-slot-tail (low3 w) off d v s = refl
-slot-tail bits34 off d v s = refl
-slot-tail bits34-not-cs off d v s = refl
-slot-tail CL off d v s = refl
-slot-tail DX off d v s = refl
-slot-tail one off d v s = refl
-slot-tail (moffs w) off d v s = refl
-slot-tail xlat off d v s = refl
-slot-tail ib off d v s = refl
-slot-tail iw off d v s = refl
-slot-tail ib-sx off d v s = refl
-slot-tail cb off d v s = refl
-slot-tail cw off d v s = refl
-slot-tail ptr off d v s = refl
-slot-tail nil off d v s = refl
-
-no-tail : (a : Slot) (off v s : ℕ) → tailNumber (tailIn a) ≡ 0 → (addressOnly (about a .place) ≡ 0) × (immediateBytes a off v s ≡ [])
-no-tail (rm w) off v s e = (refl, refl)
-no-tail rm-near off v s e = (refl, refl)
-no-tail mem off v s e = (refl, refl)
-no-tail (reg w) off v s e = (refl, refl)
-no-tail sreg off v s e = (refl, refl)
-no-tail sreg-not-cs off v s e = (refl, refl)
-no-tail (acc w) off v s e = (refl, refl)
-no-tail (low3 w) off v s e = (refl, refl)
-no-tail bits34 off v s e = (refl, refl)
-no-tail bits34-not-cs off v s e = (refl, refl)
-no-tail CL off v s e = (refl, refl)
-no-tail DX off v s e = (refl, refl)
-no-tail one off v s e = (refl, refl)
-no-tail (moffs w) off v s e = absurd (omega arith)
-no-tail xlat off v s e = (refl, refl)
-no-tail ib off v s e = absurd (omega arith)
-no-tail iw off v s e = absurd (omega arith)
-no-tail ib-sx off v s e = absurd (omega arith)
-no-tail cb off v s e = absurd (omega arith)
-no-tail cw off v s e = absurd (omega arith)
-no-tail ptr off v s e = absurd (omega arith)
-no-tail nil off v s e = (refl, refl)
-
-joined-left : (t u : Tail) → tailNumber t ≡ 0 → joined t u ≡ u
-joined-left L.None u e = refl
-joined-left L.Byte u e = absurd (omega arith)
-joined-left L.Word u e = absurd (omega arith)
-joined-left L.Near8 u e = absurd (omega arith)
-joined-left L.Near16 u e = absurd (omega arith)
-joined-left L.Far u e = absurd (omega arith)
-joined-left L.Address u e = absurd (omega arith)
-
+-- ---- the tail of two slots, of which one has none
 is-none : (u : Tail) → tailNumber u ≡ 0 → u ≡ L.None
 is-none L.None e = refl
 is-none L.Byte e = absurd (omega arith)
@@ -202,36 +133,26 @@ none-right L.Near16 = refl
 none-right L.Far = refl
 none-right L.Address = refl
 
-joined-right : (t u : Tail) → tailNumber u ≡ 0 → joined t u ≡ t
-joined-right t u e = rw (is-none u e) (none-right t)
-
--- the tail of two slots
-two-tails : (a b : Slot) (off d v s : ℕ) → T (either (eqb (tailNumber (tailIn a)) 0) (eqb (tailNumber (tailIn b)) 0))
+two-tails : (off p c x next d v s : ℕ) (t u : List ℕ) (a b : Slot) → T (either (eqb (tailNumber (tailIn a)) 0) (eqb (tailNumber (tailIn b)) 0))
     → tailBytes (joined (tailIn a) (tailIn b)) off d v s
-    ≡ displacementBytes (addressOnly (about a .place) + addressOnly (about b .place)) d ++ (immediateBytes a off v s ++ immediateBytes b off v s)
-two-tails a b off d v s t =
-    ⊎-elim (λ h. first (eqb→eq (tailNumber (tailIn a)) 0 h)) (λ h. second (eqb→eq (tailNumber (tailIn b)) 0 h))
-    (either-parts (eqb (tailNumber (tailIn a)) 0) (eqb (tailNumber (tailIn b)) 0) t)
+    ≡ displacementBytes (addressOnly (about a .place) + addressOnly (about b .place)) d ++ (immediateBytes (tailIn a) off v s ++ immediateBytes (tailIn b) off v s)
+two-tails off p c x next d v s t u a b w =
+    ⊎-elim
+    (λ h.
+    let e = eqb→eq (tailNumber (tailIn a)) 0 h in
+    let n : addressOnly (about a .place) + addressOnly (about b .place) ≡ addressOnly (about b .place) = omega (arith, ha .address e) in
+    rw (is-none (tailIn a) e, n) (hb .tail d v s))
+    (λ h.
+    let e = eqb→eq (tailNumber (tailIn b)) 0 h in
+    let n : addressOnly (about a .place) + addressOnly (about b .place) ≡ addressOnly (about a .place) = omega (arith, hb .address e) in
+    rw (is-none (tailIn b) e, n, none-right (tailIn a), append-nil (immediateBytes (tailIn a) off v s)) (ha .tail d v s))
+    (either-parts (eqb (tailNumber (tailIn a)) 0) (eqb (tailNumber (tailIn b)) 0) w)
   where
-    i : ℕ
-    i = addressOnly (about a .place)
+    ha : Holds off p x next t u (at a p c x next t u) (about a .place) (about a .takes) (tailIn a)
+    ha = holds off p x next t u c a
 
-    j : ℕ
-    j = addressOnly (about b .place)
-
-    first : tailNumber (tailIn a) ≡ 0
-        → tailBytes (joined (tailIn a) (tailIn b)) off d v s ≡ displacementBytes (i + j) d ++ (immediateBytes a off v s ++ immediateBytes b off v s)
-    first e =
-        let (z, q) = no-tail a off v s e in
-        let n : i + j ≡ j = omega arith in
-        rw (joined-left (tailIn a) (tailIn b) e, n, q) (slot-tail b off d v s)
-
-    second : tailNumber (tailIn b) ≡ 0
-        → tailBytes (joined (tailIn a) (tailIn b)) off d v s ≡ displacementBytes (i + j) d ++ (immediateBytes a off v s ++ immediateBytes b off v s)
-    second e =
-        let (z, q) = no-tail b off v s e in
-        let n : i + j ≡ i = omega arith in
-        rw (joined-right (tailIn a) (tailIn b) e, n, q, append-none (immediateBytes a off v s)) (slot-tail a off d v s)
+    hb : Holds off p x next t u (at b p c x next t u) (about b .place) (about b .takes) (tailIn b)
+    hb = holds off p x next t u c b
 
 -- what follows the opcode, by extension and places; u stands for the immediate
 abbrev Follows : Extension → Place → Place → ℕ → ℕ → List ℕ → Type 0
@@ -251,43 +172,35 @@ no-second a b x d u t =
     let (i, j) = both-parts (isnt (by-rm a)) (isnt (by-rm b)) t in
     rw (same-length a x i, same-length b x j) refl
 
-rm-alone : (a b : Place) (x : ℕ) → T (both (by-rm a) (isnt (somewhere b)))
-    → (addressLength a x + addressLength b x ≡ displacementLength (mode x) (low x)) × (addressOnly a + addressOnly b ≡ 0)
-rm-alone nowhere b x t = absurd t
-rm-alone by-modrm nowhere x t = (omega arith, refl)
-rm-alone by-modrm by-modrm x t = absurd t
-rm-alone by-modrm by-address x t = absurd t
-rm-alone by-modrm by-bx-al x t = absurd t
-rm-alone by-address b x t = absurd t
-rm-alone by-bx-al b x t = absurd t
+is-rm : (a : Place) → T (by-rm a) → a ≡ by-modrm
+is-rm nowhere t = absurd t
+is-rm by-modrm t = refl
+is-rm by-address t = absurd t
+is-rm by-bx-al t = absurd t
 
-alone-rm : (a b : Place) (x : ℕ) → T (both (isnt (somewhere a)) (by-rm b))
+rm-alone : (a b : Place) (x : ℕ) → T (by-rm a) → T (isnt (somewhere b))
     → (addressLength a x + addressLength b x ≡ displacementLength (mode x) (low x)) × (addressOnly a + addressOnly b ≡ 0)
-alone-rm nowhere nowhere x t = absurd t
-alone-rm nowhere by-modrm x t = (omega arith, refl)
-alone-rm nowhere by-address x t = absurd t
-alone-rm nowhere by-bx-al x t = absurd t
-alone-rm by-modrm b x t = absurd t
-alone-rm by-address b x t = absurd t
-alone-rm by-bx-al b x t = absurd t
+rm-alone a b x s t = let (l, _, o) = absent b t x in rw (is-rm a s) (omega arith, omega arith)
 
 with-modrm : (a b : Place) (x d : ℕ) (u : List ℕ) → x < 256 → T (either (both (by-rm a) (isnt (somewhere b))) (both (isnt (somewhere a)) (by-rm b)))
     → x ∷ (displacementBytes (addressLength a x + addressLength b x) d ++ u)
     ≡ x % 256 ∷ (displacementBytes (displacementLength (mode x) (low x)) d ++ (displacementBytes (addressOnly a + addressOnly b) d ++ u))
 with-modrm a b x d u h t =
-    let (m, n) = ⊎-elim (rm-alone a b x) (alone-rm a b x) (either-parts (both (by-rm a) (isnt (somewhere b))) (both (isnt (somewhere a)) (by-rm b)) t) in
+    let (m, n) =
+    ⊎-elim (λ z. let (i, j) = both-parts (by-rm a) (isnt (somewhere b)) z in rm-alone a b x i j)
+    (λ z. let (i, j) = both-parts (isnt (somewhere a)) (by-rm b) z in let (m, n) = rm-alone b a x j i in (omega arith, omega arith))
+    (either-parts (both (by-rm a) (isnt (somewhere b))) (both (isnt (somewhere a)) (by-rm b)) t) in
     let z : x % 256 ≡ x = omega arith in
     rw (m, n, z) refl
 
 fixed : (a b : Place) (x d : ℕ) (u : List ℕ) → x < 256 → T (both (isnt (somewhere a)) (isnt (somewhere b)))
     → x ∷ (displacementBytes (addressLength a x + addressLength b x) d ++ u) ≡ x % 256 ∷ (displacementBytes (addressOnly a + addressOnly b) d ++ u)
-fixed nowhere nowhere x d u h t = let z : x % 256 ≡ x = omega arith in rw z refl
-fixed nowhere by-modrm x d u h t = absurd t
-fixed nowhere by-address x d u h t = absurd t
-fixed nowhere by-bx-al x d u h t = absurd t
-fixed by-modrm b x d u h t = absurd t
-fixed by-address b x d u h t = absurd t
-fixed by-bx-al b x d u h t = absurd t
+fixed a b x d u h t =
+    let (i, j) = both-parts (isnt (somewhere a)) (isnt (somewhere b)) t in
+    let (k, _, m) = absent a i x in
+    let (l, _, n) = absent b j x in
+    let z : x % 256 ≡ x = omega arith in
+    rw (k, l, m, n, z) refl
 
 follows : (e : Extension) (a b : Place) (x d : ℕ) (u : List ℕ) → x < 256 → T (placed-in e a b) → Follows e a b x d u
 follows F.no a b x d u h t = no-second a b x d u t
@@ -313,6 +226,12 @@ module _ (off p c x : ℕ) (t : List ℕ) (f : Form) (listed : List·Memᴰ f fo
   abbrev b : Operand
   b = at (f .second) p c x next t u
 
+  ha : Holds off p x next t u a (about (f .first) .place) (about (f .first) .takes) (tailIn (f .first))
+  ha = holds off p x next t u c (f .first)
+
+  hb : Holds off p x next t u b (about (f .second) .place) (about (f .second) .takes) (tailIn (f .second))
+  hb = holds off p x next t u c (f .second)
+
   ok : T (onePlace f) × T (oneImmediate f) × T (alone f (f .first)) × T (alone f (f .second))
   ok =
       let (i, r) = both-parts (onePlace f) (both (oneImmediate f) (both (alone f (f .first)) (alone f (f .second)))) (each-at formed forms all-formed listed) in
@@ -320,8 +239,8 @@ module _ (off p c x : ℕ) (t : List ℕ) (f : Form) (listed : List·Memᴰ f fo
       let (k, l) = both-parts (alone f (f .first)) (alone f (f .second)) q in
       (i, j, k, l)
 
-  placed : ((y : ℕ) → (addressLength (about (f .first) .place) y ≡ 0) × (inMemory (about (f .first) .place) y ≡ false))
-      ⊎ ((y : ℕ) → (addressLength (about (f .second) .place) y ≡ 0) × (inMemory (about (f .second) .place) y ≡ false))
+  placed : ((y : ℕ) → (addressLength (about (f .first) .place) y ≡ 0) × (inMemory (about (f .first) .place) y ≡ false) × (addressOnly (about (f .first) .place) ≡ 0))
+      ⊎ ((y : ℕ) → (addressLength (about (f .second) .place) y ≡ 0) × (inMemory (about (f .second) .place) y ≡ false) × (addressOnly (about (f .second) .place) ≡ 0))
   placed =
       ⊎-elim (λ h. inl (absent (about (f .first) .place) h)) (λ h. inr (absent (about (f .second) .place) h))
       (either-parts (isnt (somewhere (about (f .first) .place))) (isnt (somewhere (about (f .second) .place))) (ok .0))
@@ -334,31 +253,27 @@ module _ (off p c x : ℕ) (t : List ℕ) (f : Form) (listed : List·Memᴰ f fo
   pub displacement-is : Bytes t → displacementOf m ≡ displacementAt (memoryLength f x) t
   displacement-is bs =
       let e = canonical-sum displacementIn refl (λ n. refl) (f .operation) (widthOf f) a b in
-      let d = displacement-at (f .first) p c x next t u in
-      let g = displacement-at (f .second) p c x next t u in
       let s = one-displacement (addressLength (about (f .first) .place) x) (addressLength (about (f .second) .place) x) t
       (⊎-elim (λ h. inl (h x .0)) (λ h. inr (h x .0)) placed) in
-      omega (arith, e, d, g, s, displacement-small (memoryLength f x) t memory-le bs)
+      omega (arith, e, ha .displacement, hb .displacement, s, displacement-small (memoryLength f x) t memory-le bs)
 
   -- the prefix, where there is one
   pub prefix-is : prefix p ≡ true → p < 256 → namesMemory f x ≡ true → prefixOf m ≡ p
   prefix-is e h n =
       let s = canonical-sum prefixIn refl (λ n. refl) (f .operation) (widthOf f) a b in
-      let d = prefix-at (f .first) p c x next t u e in
-      let g = prefix-at (f .second) p c x next t u e in
       let o = one-prefix p (inMemory (about (f .first) .place) x) (inMemory (about (f .second) .place) x)
       (⊎-elim (λ h. inl (h x .1)) (λ h. inr (h x .1)) placed) n in
-      omega (arith, s, d, g, o)
+      omega (arith, s, ha .prefixed e, hb .prefixed e, o)
 
   -- a near target ends the instruction, which has no prefix
-  near-next : either (eqb p 0) (namesMemory f x) ≡ true → (s : Slot) → T (alone f s) → 0 < near s → next ≡ off + near s
-  near-next n s w h = ⊎-elim (λ z. let e = eqb→eq (near s) 0 z in absurd (omega arith)) (λ z. go z) (either-parts (eqb (near s) 0) rest w)
+  near-next : either (eqb p 0) (namesMemory f x) ≡ true → (s : Slot) → T (alone f s) → 0 < near (tailIn s) → next ≡ off + near (tailIn s)
+  near-next n s w h = ⊎-elim (λ z. let e = eqb→eq (near (tailIn s)) 0 z in absurd (omega arith)) (λ z. go z) (either-parts (eqb (near (tailIn s)) 0) rest w)
     where
       i : Bool
       i = isnt (hasSecond (f .extension))
 
       j : Bool
-      j = eqb (1 + (about (f .first) .takes + about (f .second) .takes)) (near s)
+      j = eqb (1 + (about (f .first) .takes + about (f .second) .takes)) (near (tailIn s))
 
       k : Bool
       k = isnt (somewhere (about (f .first) .place))
@@ -373,21 +288,21 @@ module _ (off p c x : ℕ) (t : List ℕ) (f : Form) (listed : List·Memᴰ f fo
       short true t = absurd t
       short false t = refl
 
-      go : T rest → next ≡ off + near s
+      go : T rest → next ≡ off + near (tailIn s)
       go z =
           let (zi, y) = both-parts i (both j (both k l)) z in
           let (zj, q) = both-parts j (both k l) y in
           let (zk, zl) = both-parts k l q in
-          let (ea, fa) = absent (about (f .first) .place) zk x in
-          let (eb, fb) = absent (about (f .second) .place) zl x in
+          let (ea, fa, _) = absent (about (f .first) .place) zk x in
+          let (eb, fb, _) = absent (about (f .second) .place) zl x in
           let e0 = not-memory p (inMemory (about (f .first) .place) x) (inMemory (about (f .second) .place) x) fa fb n in
           let e1 : _≡_ {A = ℕ} (pick (eqb p 0) 0 1) 0 = rw e0 refl in
           let e2 = short (hasSecond (f .extension)) zi in
-          let e3 = eqb→eq (1 + (about (f .first) .takes + about (f .second) .takes)) (near s) zj in
+          let e3 = eqb→eq (1 + (about (f .first) .takes + about (f .second) .takes)) (near (tailIn s)) zj in
           omega (arith, e1, e2, e3, ea, eb)
 
   immediates : Type 0
-  immediates = u ≡ immediateBytes (f .first) off (valueOf m) (farSegmentOf m) ++ immediateBytes (f .second) off (valueOf m) (farSegmentOf m)
+  immediates = u ≡ immediateBytes (tailIn (f .first)) off (valueOf m) (farSegmentOf m) ++ immediateBytes (tailIn (f .second)) off (valueOf m) (farSegmentOf m)
 
   module _ (h : off < 65536) (bs : Bytes t) (e : length t ≡ tailLength f x) (n : either (eqb p 0) (namesMemory f x) ≡ true) where
     bu : Bytes u
@@ -402,28 +317,28 @@ module _ (off p c x : ℕ) (t : List ℕ) (f : Form) (listed : List·Memᴰ f fo
     first-only : about (f .second) .takes ≡ 0 → immediates
     unfolding immediates
     first-only z =
-        let q = quiet (f .second) off p c x next t u z in
-        let s = value-small (f .first) p c x next t u bu in
-        let ev : valueOf m ≡ valueIn a = omega (arith, value-sum, q .value, s .0) in
-        let es : farSegmentOf m ≡ farSegmentIn a = omega (arith, segment-sum, q .segment, s .1) in
+        let q = hb .quiet z in
+        let s = ha .small bu in
+        let ev : valueOf m ≡ valueIn a = omega (arith, value-sum, q .0, s .0) in
+        let es : farSegmentOf m ≡ farSegmentIn a = omega (arith, segment-sum, q .1, s .1) in
         let l : length u ≡ about (f .first) .takes = length-drop (memoryLength f x) t ∙ omega arith in
-        let i = immediate-back (f .first) off p c x next t u h bu l (near-next n (f .first) (ok .2)) in
-        rw (ev, es, q .bytes (valueIn a) (farSegmentIn a)) (i ∙ sym (append-none (immediateBytes (f .first) off (valueIn a) (farSegmentIn a))))
+        let i = ha .back h bu l (near-next n (f .first) (ok .2)) in
+        rw (ev, es, q .2 (valueIn a) (farSegmentIn a)) (i ∙ sym (append-nil (immediateBytes (tailIn (f .first)) off (valueIn a) (farSegmentIn a))))
 
     second-only : about (f .first) .takes ≡ 0 → immediates
     unfolding immediates
     second-only z =
-        let q = quiet (f .first) off p c x next t u z in
-        let s = value-small (f .second) p c x next t u bu in
-        let ev : valueOf m ≡ valueIn b = omega (arith, value-sum, q .value, s .0) in
-        let es : farSegmentOf m ≡ farSegmentIn b = omega (arith, segment-sum, q .segment, s .1) in
+        let q = ha .quiet z in
+        let s = hb .small bu in
+        let ev : valueOf m ≡ valueIn b = omega (arith, value-sum, q .0, s .0) in
+        let es : farSegmentOf m ≡ farSegmentIn b = omega (arith, segment-sum, q .1, s .1) in
         let l : length u ≡ about (f .second) .takes = length-drop (memoryLength f x) t ∙ omega arith in
-        let i = immediate-back (f .second) off p c x next t u h bu l (near-next n (f .second) (ok .3)) in
-        rw (ev, es, q .bytes (valueIn b) (farSegmentIn b)) i
+        let i = hb .back h bu l (near-next n (f .second) (ok .3)) in
+        rw (ev, es, q .2 (valueIn b) (farSegmentIn b)) i
 
     -- displacement or address, then the immediate
     behind-is : t ≡ displacementBytes (memoryLength f x) (displacementOf m)
-        ++ (immediateBytes (f .first) off (valueOf m) (farSegmentOf m) ++ immediateBytes (f .second) off (valueOf m) (farSegmentOf m))
+        ++ (immediateBytes (tailIn (f .first)) off (valueOf m) (farSegmentOf m) ++ immediateBytes (tailIn (f .second)) off (valueOf m) (farSegmentOf m))
     unfolding immediates
     behind-is =
         let d = displacement-back (memoryLength f x) t memory-le (omega arith) bs in
@@ -435,9 +350,9 @@ module _ (off p c x : ℕ) (t : List ℕ) (f : Form) (listed : List·Memᴰ f fo
     pub behind-start : x < 256 → pick (hasSecond (f .extension)) (x ∷ []) [] ++ t
         ≡ secondBytes (startBy f c x .second) (displacementOf m) ++ tailBytes (startBy f c x .tail) off (displacementOf m) (valueOf m) (farSegmentOf m)
     behind-start k =
-        let i = immediateBytes (f .first) off (valueOf m) (farSegmentOf m) ++ immediateBytes (f .second) off (valueOf m) (farSegmentOf m) in
+        let i = immediateBytes (tailIn (f .first)) off (valueOf m) (farSegmentOf m) ++ immediateBytes (tailIn (f .second)) off (valueOf m) (farSegmentOf m) in
         let (y, z) = both-parts (placed-in (f .extension) (about (f .first) .place) (about (f .second) .place)) (oneTail f) (each-at ended forms all-ended listed) in
         ap (λ (l : List ℕ). pick (hasSecond (f .extension)) (x ∷ []) [] ++ l) behind-is
         ∙ (follows (f .extension) (about (f .first) .place) (about (f .second) .place) x (displacementOf m) i k y
         ∙ ap (λ (l : List ℕ). secondBytes (startBy f c x .second) (displacementOf m) ++ l)
-        (sym (two-tails (f .first) (f .second) off (displacementOf m) (valueOf m) (farSegmentOf m) z)))
+        (sym (two-tails off p c x next (displacementOf m) (valueOf m) (farSegmentOf m) t u (f .first) (f .second) z)))

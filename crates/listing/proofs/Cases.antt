@@ -17,13 +17,13 @@ use Rattle.mrc_compiler.specs.Builders.{immediateOperand, registerOperand, indi
 use Rattle.x86.specs.Forms.{forms}
 use Rattle.x86.specs.Instructions.{canonical}
 use Rattle.x86.specs.Reading.{startingWith, readForm, prefix, reads}
-use Rattle.answers.specs.Groups.{groupOf}
-use Rattle.answers.specs.Meaning.{counted, meant, meaning}
+use Rattle.answers.specs.Operands.{counted}
+use Rattle.answers.specs.Meaning.{meant, meaning}
 use Rattle.groups.specs.Grouping.{groupedOf}
 use Rattle.listing.specs.Operands.{sameOperand, sameInstruction}
 use Rattle.listing.specs.Starts.{arithmeticImmediate, arithmetic, exchange, single, startIn, startOf}
 use Rattle.listing.specs.Candidates.{stringOf, candidate}
-use Rattle.listing.specs.Entries.{entry, spelled, key, isWhole, readsAs, insert, among, listing}
+use Rattle.listing.specs.Entries.{entry, spelled, key, isWhole, readsAs, insertBy, among, listing}
 
 abbrev span : Span
 span = record { start = 1; end = 9 }
@@ -58,5 +58,5 @@ pub record Rows (off : ℕ) : Type 0 where
   pub add-bx-200 : listed off Op.ADD (registerOperand span 3 S.Word) (immediateOperand span (pos 200)) ≡ (0x81 ∷ 0xC3 ∷ 0xC8 ∷ 0x00 ∷ []) ∷ []
 
 pub rows : (off : ℕ) → Rows off
-unfolding forms canonical startingWith readForm prefix reads groupOf counted meant groupedOf sameOperand sameInstruction arithmeticImmediate arithmetic exchange single startIn startOf stringOf candidate entry spelled key isWhole readsAs insert among numberOf
+unfolding forms canonical startingWith readForm prefix reads counted meant groupedOf sameOperand sameInstruction arithmeticImmediate arithmetic exchange single startIn startOf stringOf candidate entry spelled key isWhole readsAs insertBy among numberOf
 rows off = record { add-ax-5 = refl; add-word-bx-5 = refl; xchg-cx-cx = refl; xchg-ax-ax = refl; add-bx-200 = refl }

@@ -23,33 +23,19 @@ key-is (a ∷ b ∷ c ∷ d ∷ e ∷ f ∷ []) h = omega arith
 key-is (a ∷ b ∷ c ∷ d ∷ e ∷ f ∷ g ∷ []) h = omega arith
 key-is (a ∷ b ∷ c ∷ d ∷ e ∷ f ∷ g ∷ y ∷ l) h = absurd (omega arith)
 
-module _ (b0 b1 b2 b3 b4 b5 b6 b7 : ℕ) (h0 : b0 < 256) (h1 : b1 < 256) (h2 : b2 < 256) (h3 : b3 < 256) (h4 : b4 < 256) (h5 : b5 < 256) (h6 : b6 < 256) (h7 : b7 < 256) where
-  part0 : (n : ℕ) → n ≡ b0 * 72057594037927936 + b1 * 281474976710656 + b2 * 1099511627776 + b3 * 4294967296 + b4 * 16777216 + b5 * 65536 + b6 * 256 + b7 → n / 72057594037927936 % 256 ≡ b0
-  part0 n e = omega arith
-
-  part1 : (n : ℕ) → n ≡ b0 * 72057594037927936 + b1 * 281474976710656 + b2 * 1099511627776 + b3 * 4294967296 + b4 * 16777216 + b5 * 65536 + b6 * 256 + b7 → n / 281474976710656 % 256 ≡ b1
-  part1 n e = omega arith
-
-  part2 : (n : ℕ) → n ≡ b0 * 72057594037927936 + b1 * 281474976710656 + b2 * 1099511627776 + b3 * 4294967296 + b4 * 16777216 + b5 * 65536 + b6 * 256 + b7 → n / 1099511627776 % 256 ≡ b2
-  part2 n e = omega arith
-
-  part3 : (n : ℕ) → n ≡ b0 * 72057594037927936 + b1 * 281474976710656 + b2 * 1099511627776 + b3 * 4294967296 + b4 * 16777216 + b5 * 65536 + b6 * 256 + b7 → n / 4294967296 % 256 ≡ b3
-  part3 n e = omega arith
-
-  part4 : (n : ℕ) → n ≡ b0 * 72057594037927936 + b1 * 281474976710656 + b2 * 1099511627776 + b3 * 4294967296 + b4 * 16777216 + b5 * 65536 + b6 * 256 + b7 → n / 16777216 % 256 ≡ b4
-  part4 n e = omega arith
-
-  part5 : (n : ℕ) → n ≡ b0 * 72057594037927936 + b1 * 281474976710656 + b2 * 1099511627776 + b3 * 4294967296 + b4 * 16777216 + b5 * 65536 + b6 * 256 + b7 → n / 65536 % 256 ≡ b5
-  part5 n e = omega arith
-
-  part6 : (n : ℕ) → n ≡ b0 * 72057594037927936 + b1 * 281474976710656 + b2 * 1099511627776 + b3 * 4294967296 + b4 * 16777216 + b5 * 65536 + b6 * 256 + b7 → n / 256 % 256 ≡ b6
-  part6 n e = omega arith
-
-  part7 : (n : ℕ) → n ≡ b0 * 72057594037927936 + b1 * 281474976710656 + b2 * 1099511627776 + b3 * 4294967296 + b4 * 16777216 + b5 * 65536 + b6 * 256 + b7 → n % 256 ≡ b7
-  part7 n e = omega arith
-
-  pub digits-are : (n : ℕ) → n ≡ b0 * 72057594037927936 + b1 * 281474976710656 + b2 * 1099511627776 + b3 * 4294967296 + b4 * 16777216 + b5 * 65536 + b6 * 256 + b7 → digits n ≡ b0 ∷ b1 ∷ b2 ∷ b3 ∷ b4 ∷ b5 ∷ b6 ∷ b7 ∷ []
-  digits-are n e = λ i. part0 n e i ∷ part1 n e i ∷ part2 n e i ∷ part3 n e i ∷ part4 n e i ∷ part5 n e i ∷ part6 n e i ∷ part7 n e i ∷ []
+digits-are : (n b0 b1 b2 b3 b4 b5 b6 b7 : ℕ) → b0 < 256 → b1 < 256 → b2 < 256 → b3 < 256 → b4 < 256 → b5 < 256 → b6 < 256 → b7 < 256
+    → n ≡ b0 * 72057594037927936 + b1 * 281474976710656 + b2 * 1099511627776 + b3 * 4294967296 + b4 * 16777216 + b5 * 65536 + b6 * 256 + b7
+    → digits n ≡ b0 ∷ b1 ∷ b2 ∷ b3 ∷ b4 ∷ b5 ∷ b6 ∷ b7 ∷ []
+digits-are n b0 b1 b2 b3 b4 b5 b6 b7 h0 h1 h2 h3 h4 h5 h6 h7 e =
+    let d0 : n / 72057594037927936 % 256 ≡ b0 = omega arith in
+    let d1 : n / 281474976710656 % 256 ≡ b1 = omega arith in
+    let d2 : n / 1099511627776 % 256 ≡ b2 = omega arith in
+    let d3 : n / 4294967296 % 256 ≡ b3 = omega arith in
+    let d4 : n / 16777216 % 256 ≡ b4 = omega arith in
+    let d5 : n / 65536 % 256 ≡ b5 = omega arith in
+    let d6 : n / 256 % 256 ≡ b6 = omega arith in
+    let d7 : n % 256 ≡ b7 = omega arith in
+    λ i. d0 i ∷ d1 i ∷ d2 i ∷ d3 i ∷ d4 i ∷ d5 i ∷ d6 i ∷ d7 i ∷ []
 
 pub entry-is : (s : List ℕ) → length s ≤ 7 → entry s ≡ length s ∷ getD s 0 0 ∷ getD s 1 0 ∷ getD s 2 0 ∷ getD s 3 0 ∷ getD s 4 0 ∷ getD s 5 0 ∷ getD s 6 0 ∷ []
 unfolding entry
@@ -65,8 +51,8 @@ entry-is (a ∷ b ∷ c ∷ d ∷ e ∷ f ∷ g ∷ y ∷ s) h = absurd (omega a
 
 pub digits-key : (s : List ℕ) → length s ≤ 7 → Bytes s → digits (key s) ≡ entry s
 digits-key s h bs =
-    digits-are (length s) (getD s 0 0) (getD s 1 0) (getD s 2 0) (getD s 3 0) (getD s 4 0) (getD s 5 0) (getD s 6 0)
-    (omega arith) (bs 0) (bs 1) (bs 2) (bs 3) (bs 4) (bs 5) (bs 6) (key s) (sym (key-is s h))
+    digits-are (key s) (length s) (getD s 0 0) (getD s 1 0) (getD s 2 0) (getD s 3 0) (getD s 4 0) (getD s 5 0) (getD s 6 0)
+    (omega arith) (bs 0) (bs 1) (bs 2) (bs 3) (bs 4) (bs 5) (bs 6) (sym (key-is s h))
     ∙ sym (entry-is s h)
 
 -- the string of an entry

@@ -9,8 +9,7 @@ use mathlib.Core.Logic.{_⊎_, inl, inr, ⊎-elim}
 use mathlib.Core.List.{List, [], _∷_, _++_}
 use lib.Dec.{T, eqb, ltb, eqb→eq, eqb-refl}
 use lib.ListN.{length, getD}
-use borrow.Author.Tests.{ltb-true, ltb-false, eqb-true, eqb-false}
-use Rattle.mrc_compiler.specs.Choose.{pick, both}
+use Rattle.mrc_compiler.specs.Choose.{pick}
 use Rattle.x86.specs.declared.Instruction.{Instruction}
 use Rattle.x86.specs.declared.Read.{Read}
 use Rattle.x86.specs.declared.Read.the-variants.{Whole, Nothing, More}
@@ -28,7 +27,9 @@ use Rattle.listing.specs.declared.Start.{Start}
 use Rattle.listing.specs.Operands.{prefixOf, displacementOf, valueOf, farSegmentOf, sameInstruction}
 use Rattle.listing.specs.Starts.{startOf}
 use Rattle.listing.specs.Candidates.{byteOf, displacementBytes, secondBytes, distance, tailBytes, stringOf, candidate}
-use Rattle.listing.specs.Entries.{key, isWhole, readsAs, insert, among, listing}
+use Rattle.listing.specs.Entries.{key, isWhole, readsAs, insertBy, among, listing}
+use Rattle.listing.proofs.Choices.{picked, both-true}
+use Rattle.listing.proofs.Insertion.{three, Rising, insert-rising, insert-length, rising-at}
 use Rattle.listing.proofs.Same.{instruction-eq, instruction-same}
 use Rattle.listing.proofs.Order.{append-bytes, key-before}
 use Rattle.listing.proofs.Digits.{key-same}
@@ -44,10 +45,6 @@ whole-is (Whole i k) m n t =
 whole-is Nothing m n t = absurd t
 whole-is More m n t = absurd t
 
-both-true : (a b : Bool) → T a → T b → T (both a b)
-both-true true b s t = t
-both-true false b s t = s
-
 is-whole : (r : Read) (m : Instruction) (n : ℕ) → r ≡ Whole m n → T (isWhole r m n)
 unfolding isWhole
 is-whole r m n e =
@@ -60,13 +57,9 @@ byte-bytes v = one-more (v % 256) [] (omega arith) no-bytes
 word-bytes : (v : ℕ) → v < 65536 → Bytes (wordBytes v)
 word-bytes v h = one-more (v % 256) (v / 256 ∷ []) (omega arith) (one-more (v / 256) [] (omega arith) no-bytes)
 
-pick-bytes : (b : Bool) (s t : List ℕ) → Bytes s → Bytes t → Bytes (pick b s t)
-pick-bytes true s t bs bt = bs
-pick-bytes false s t bs bt = bt
-
 displacement-bytes : (n d : ℕ) → d < 65536 → Bytes (displacementBytes n d)
 displacement-bytes n d h =
-    pick-bytes (eqb n 0) [] (pick (eqb n 1) (byteOf d) (wordBytes d)) no-bytes (pick-bytes (eqb n 1) (byteOf d) (wordBytes d) (byte-bytes d) (word-bytes d h))
+    picked Bytes (eqb n 0) no-bytes (picked Bytes (eqb n 1) (byte-bytes d) (word-bytes d h))
 
 second-bytes : (x : Second) (d : ℕ) → d < 65536 → Bytes (secondBytes x d)
 second-bytes X.None d h = no-bytes
@@ -90,18 +83,14 @@ string-bytes off p s m h =
     let d = displacementOf m in
     let second = secondBytes (s .second) d in
     let tail = tailBytes (s .tail) off d (valueOf m) (farSegmentOf m) in
-    append-bytes (prefixBytes p) (s .opcode % 256 ∷ (second ++ tail)) (pick-bytes (eqb p 0) [] (p ∷ []) no-bytes (one-more p [] h no-bytes))
+    append-bytes (prefixBytes p) (s .opcode % 256 ∷ (second ++ tail)) (picked Bytes (eqb p 0) no-bytes (one-more p [] h no-bytes))
     (one-more (s .opcode % 256) (second ++ tail) (omega arith)
     (append-bytes second tail (second-bytes (s .second) d (omega arith)) (tail-bytes (s .tail) off d (valueOf m) (farSegmentOf m) (omega arith) (omega arith) (omega arith))))
-
-pick-byte : (b : Bool) (i j : ℕ) → i < 256 → j < 256 → pick b i j < 256
-pick-byte true i j h k = h
-pick-byte false i j h k = k
 
 candidate-bytes : (off : ℕ) (m : Instruction) (i : ℕ) → Bytes (candidate off m i)
 unfolding candidate
 candidate-bytes off m i =
-    string-bytes off (pick (ltb i 6) 0 (prefixOf m)) (startOf m (i / 3 % 2) (i % 3)) m (pick-byte (ltb i 6) 0 (prefixOf m) (omega arith) (omega arith))
+    string-bytes off (pick (ltb i 6) 0 (prefixOf m)) (startOf m (i / 3 % 2) (i % 3)) m (picked (λ (n : ℕ). n < 256) (ltb i 6) (omega arith) (omega arith))
 
 -- ---- a string that the listing may have
 pub record Listed (off : ℕ) (m : Instruction) (s : List ℕ) : Type 0 where
@@ -129,84 +118,35 @@ first-is : {s t : List ℕ} {l : List (List ℕ)} → s ≡ t → Among s (t ∷
 first-is {s} {t} {l} e = subst (λ (t : List ℕ). Among s (t ∷ l)) e here
 
 -- ---- insertion
--- the three cases of an insertion
-three : (i j : ℕ) (P : Type 0) → (ltb i j ≡ true → i < j → P) → (ltb i j ≡ false → eqb i j ≡ true → i ≡ j → P)
-    → (ltb i j ≡ false → eqb i j ≡ false → j < i → P) → P
-three i j P f g h = go (ltb i j) refl (eqb i j) refl
-  where
-    go : (p : Bool) → ltb i j ≡ p → (q : Bool) → eqb i j ≡ q → P
-    go true e q d = f e (ltb-true i j e)
-    go false e true d = g e d (eqb-true i j d)
-    go false e false d = h e d (above (ltb-false i j e) (eqb-false i j d))
-      where
-        above : j ≤ i → (i ≡ j → ⊥) → j < i
-        above l n = omega arith
-
 -- a string of the list, or the one inserted
-insert-only : (s t : List ℕ) (l : List (List ℕ)) → Among s (insert t l) → (s ≡ t) ⊎ Among s l
-unfolding insert
+insert-only : (s t : List ℕ) (l : List (List ℕ)) → Among s (insertBy key t l) → (s ≡ t) ⊎ Among s l
+unfolding insertBy
 insert-only s t [] = λ a. cases a
 insert-only s t (u ∷ l) =
-    three (key t) (key u) (Among s (insert t (u ∷ l)) → (s ≡ t) ⊎ Among s (u ∷ l))
+    three (key t) (key u) (Among s (insertBy key t (u ∷ l)) → (s ≡ t) ⊎ Among s (u ∷ l))
     (λ e _. rw e (λ a. cases a))
     (λ e d _. rw (e, d) (λ a. inr a))
     (λ e d _. rw (e, d) (λ a. ⊎-elim (λ z. inr (first-is z)) (λ b. ⊎-elim (λ z. inl z) (λ c. inr (later c)) (insert-only s t l b)) (cases a)))
 
 -- the strings of the list stay
-insert-old : (s t : List ℕ) (l : List (List ℕ)) → Among s l → Among s (insert t l)
-unfolding insert
+insert-old : (s t : List ℕ) (l : List (List ℕ)) → Among s l → Among s (insertBy key t l)
+unfolding insertBy
 insert-old s t [] a = absurd (nowhere a)
 insert-old s t (u ∷ l) a =
-    three (key t) (key u) (Among s (insert t (u ∷ l)))
+    three (key t) (key u) (Among s (insertBy key t (u ∷ l)))
     (λ e _. rw e (later a))
     (λ e d _. rw (e, d) a)
     (λ e d _. rw (e, d) (⊎-elim (λ z. first-is z) (λ b. later (insert-old s t l b)) (cases a)))
 
 -- the one inserted stands in it, where equal numbers are of equal strings
-insert-here : (t : List ℕ) (l : List (List ℕ)) → ((u : List ℕ) → Among u l → key t ≡ key u → t ≡ u) → Among t (insert t l)
-unfolding insert
+insert-here : (t : List ℕ) (l : List (List ℕ)) → ((u : List ℕ) → Among u l → key t ≡ key u → t ≡ u) → Among t (insertBy key t l)
+unfolding insertBy
 insert-here t [] f = here
 insert-here t (u ∷ l) f =
-    three (key t) (key u) (Among t (insert t (u ∷ l)))
+    three (key t) (key u) (Among t (insertBy key t (u ∷ l)))
     (λ e _. rw e here)
     (λ e d z. rw (e, d) (first-is (f u here z)))
     (λ e d _. rw (e, d) (later (insert-here t l (λ v a. f v (later a)))))
-
--- increasing, and all above s
-abbrev Over : List ℕ → List (List ℕ) → Type 0
-Over s [] = Unit {0}
-Over s (t ∷ l) = (key s < key t) × Over t l
-
-abbrev Rising : List (List ℕ) → Type 0
-Rising [] = Unit {0}
-Rising (s ∷ l) = Over s l
-
-insert-over : (s t : List ℕ) (l : List (List ℕ)) → key s < key t → Over s l → Over s (insert t l)
-unfolding insert
-insert-over s t [] h o = (h, tt)
-insert-over s t (u ∷ l) h o =
-    three (key t) (key u) (Over s (insert t (u ∷ l)))
-    (λ e i. rw e (h, (i, o .1)))
-    (λ e d _. rw (e, d) o)
-    (λ e d i. rw (e, d) (o .0, insert-over u t l i (o .1)))
-
-insert-rising : (t : List ℕ) (l : List (List ℕ)) → Rising l → Rising (insert t l)
-unfolding insert
-insert-rising t [] r = tt
-insert-rising t (u ∷ l) r =
-    three (key t) (key u) (Rising (insert t (u ∷ l)))
-    (λ e i. rw e (i, r))
-    (λ e d _. rw (e, d) r)
-    (λ e d i. rw (e, d) (insert-over u t l i r))
-
-insert-length : (t : List ℕ) (l : List (List ℕ)) → length (insert t l) ≤ suc (length l)
-unfolding insert
-insert-length t [] = omega arith
-insert-length t (u ∷ l) =
-    three (key t) (key u) (length (insert t (u ∷ l)) ≤ suc (suc (length l)))
-    (λ e _. rw e (omega arith))
-    (λ e d _. rw (e, d) (omega arith))
-    (λ e d _. rw (e, d) (omega (arith, insert-length t l)))
 
 -- ---- the candidates one after the other
 two : (P : List (List ℕ) → Type 0) (q : Bool) (a b : List (List ℕ)) → (T q → P a) → P b → P (pick q a b)
@@ -221,24 +161,24 @@ module _ (off : ℕ) (m : Instruction) where
   abbrev s : ℕ → List ℕ
   s i = candidate off m i
 
-  among-rising : (n : ℕ) → Rising (among off m n)
+  among-rising : (n : ℕ) → Rising key (among off m n)
   unfolding among
   among-rising zero = tt
   among-rising (suc n) =
-      two Rising (readsAs off m (s n)) (insert (s n) (among off m n)) (among off m n) (λ _. insert-rising (s n) (among off m n) (among-rising n)) (among-rising n)
+      two (Rising key) (readsAs off m (s n)) (insertBy key (s n) (among off m n)) (among off m n) (λ _. insert-rising key (s n) (among off m n) (among-rising n)) (among-rising n)
 
   among-length : (n : ℕ) → length (among off m n) ≤ n
   unfolding among
   among-length zero = zero-le
   among-length (suc n) =
-      two (λ (l : List (List ℕ)). length l ≤ suc n) (readsAs off m (s n)) (insert (s n) (among off m n)) (among off m n)
-      (λ _. omega (arith, insert-length (s n) (among off m n), among-length n)) (omega (arith, among-length n))
+      two (λ (l : List (List ℕ)). length l ≤ suc n) (readsAs off m (s n)) (insertBy key (s n) (among off m n)) (among off m n)
+      (λ _. omega (arith, insert-length key (s n) (among off m n), among-length n)) (omega (arith, among-length n))
 
   pub among-only : (t : List ℕ) (n : ℕ) → Among t (among off m n) → Listed off m t
   unfolding among
   among-only t zero = λ a. absurd (nowhere a)
   among-only t (suc n) =
-      two (λ (l : List (List ℕ)). Among t l → Listed off m t) (readsAs off m (s n)) (insert (s n) (among off m n)) (among off m n)
+      two (λ (l : List (List ℕ)). Among t l → Listed off m t) (readsAs off m (s n)) (insertBy key (s n) (among off m n)) (among off m n)
       (λ q a. ⊎-elim (λ e. subst (Listed off m) (sym e) (candidate-listed off m n q)) (λ b. among-only t n b) (insert-only t (s n) (among off m n) a))
       (λ a. among-only t n a)
 
@@ -252,30 +192,15 @@ module _ (off : ℕ) (m : Instruction) where
   among-in i (suc n) h t =
       ⊎-elim
       (λ (e : i ≡ n).
-      subst (λ (j : ℕ). Among (s i) (pick (readsAs off m (s j)) (insert (s j) (among off m n)) (among off m n))) e
-      (yes (Among (s i)) (readsAs off m (s i)) (insert (s i) (among off m n)) (among off m n) t
+      subst (λ (j : ℕ). Among (s i) (pick (readsAs off m (s j)) (insertBy key (s j) (among off m n)) (among off m n))) e
+      (yes (Among (s i)) (readsAs off m (s i)) (insertBy key (s i) (among off m n)) (among off m n) t
       (insert-here (s i) (among off m n) (same-string (s i) n (candidate-listed off m i t)))))
       (λ l.
-      two (Among (s i)) (readsAs off m (s n)) (insert (s n) (among off m n)) (among off m n)
+      two (Among (s i)) (readsAs off m (s n)) (insertBy key (s n) (among off m n)) (among off m n)
       (λ _. insert-old (s i) (s n) (among off m n) (among-in i n l t)) (among-in i n l t))
       (eq-or-lt-of-le (le-of-suc-le-suc h))
 
 -- ---- order
-over-at : (s : List ℕ) (l : List (List ℕ)) (j : ℕ) → Over s l → j < length l → key s < key (getD l j [])
-over-at s [] j o h = absurd (omega arith)
-over-at s (t ∷ l) zero o h = o .0
-over-at s (t ∷ l) (suc j) o h = omega (arith, o .0, over-at t l j (o .1) (omega arith))
-
-over-rising : (s : List ℕ) (l : List (List ℕ)) → Over s l → Rising l
-over-rising s [] o = tt
-over-rising s (t ∷ l) o = o .1
-
-rising-at : (l : List (List ℕ)) (i j : ℕ) → Rising l → i < j → j < length l → key (getD l i []) < key (getD l j [])
-rising-at [] i j r h k = absurd (omega arith)
-rising-at (s ∷ l) i zero r h k = absurd (omega arith)
-rising-at (s ∷ l) zero (suc j) r h k = over-at s l j r (omega arith)
-rising-at (s ∷ l) (suc i) (suc j) r h k = rising-at l i j (over-rising s l r) (omega arith) (omega arith)
-
 at-among : (l : List (List ℕ)) (i : ℕ) → i < length l → Among (getD l i []) l
 at-among [] i h = absurd (omega arith)
 at-among (s ∷ l) zero h = here
@@ -295,7 +220,7 @@ listing-is off m h =
           let a = among-only off m (getD (listing off m) i []) 12 (at-among (listing off m) i (omega arith)) in
           let b = among-only off m (getD (listing off m) j []) 12 (at-among (listing off m) j l) in
           key-before (getD (listing off m) i []) (getD (listing off m) j []) (a .are-bytes) (b .are-bytes) (a .short) (b .short)
-          (rising-at (listing off m) i j (among-rising off m 12) k l);
+          (rising-at key [] (listing off m) i j (among-rising off m 12) k l);
     }
 
 -- twelve at most

@@ -1,3 +1,5 @@
+pub mod Choices
+pub mod Insertion
 pub mod ByForm
 pub mod Covered
 pub mod Values

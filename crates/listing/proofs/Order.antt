@@ -1,30 +1,21 @@
 -- The order of the entries' numbers is the order of the strings: shorter first, then by the first differing byte.
 -- Assumes nothing.
-use mathlib.Core.Path.{_≡_, refl, sym, _∙_, ap, subst}
+use mathlib.Core.Path.{_≡_, sym, _∙_, ap, subst}
 use Prim.Native.Nat.{ℕ, zero, suc, _+_, _*_, _-_, _^_, _≤_, _<_}
 use native.Mathlib.Omega.{arith}
-use native.Mathlib.Nat.{mul-le-mul-right, suc-mul, pow-succ'}
-use mathlib.Core.Bool.{Bool, true, false}
+use native.Mathlib.Nat.{eq-or-lt-of-le, mul-le-mul-right, suc-mul, pow-succ'}
 use mathlib.Core.Logic.{_⊎_, inl, inr, ⊎-elim}
 use mathlib.Core.List.{List, [], _∷_, _++_}
-use lib.Dec.{ltb, lit<}
+use lib.Dec.{lit<}
 use lib.ListN.{length, replicate, length-append, length-replicate}
-use borrow.Author.Tests.{ltb-true, ltb-false}
 use Rattle.x86.specs.Listing.{Bytes, First, Before}
 use Rattle.x86.proofs.Extend.{no-bytes, one-more}
+use Rattle.listing.proofs.Choices.{lt-or}
 use Rattle.listing.specs.Entries.{entry, spelled, key}
 
 pub append-bytes : (s t : List ℕ) → Bytes s → Bytes t → Bytes (s ++ t)
 append-bytes [] t bs bt = bt
 append-bytes (a ∷ s) t bs bt = one-more a (s ++ t) (bs 0) (append-bytes s t (λ i. bs (suc i)) bt)
-
-tri : (a b : ℕ) → (a < b) ⊎ ((a ≡ b) ⊎ (b < a))
-tri a b = go (ltb a b) refl (ltb b a) refl
-  where
-    go : (p : Bool) → ltb a b ≡ p → (q : Bool) → ltb b a ≡ q → (a < b) ⊎ ((a ≡ b) ⊎ (b < a))
-    go true e q d = inl (ltb-true a b e)
-    go false e true d = inr (inr (ltb-true b a d))
-    go false e false d = inr (inl (omega (arith, ltb-false a b e, ltb-false b a d)))
 
 -- ---- numbers of two digits, the lower below P
 above : (a b P x y : ℕ) → x < P → a < b → a * P + x < b * P + y
@@ -36,14 +27,10 @@ above a b P x y h l =
 lex-from : (a b P x y : ℕ) → x < P → y < P → a * P + x < b * P + y → (a < b) ⊎ ((a ≡ b) × (x < y))
 lex-from a b P x y h k l =
     ⊎-elim (λ (s : a < b). inl s)
-    (λ (t : (a ≡ b) ⊎ (b < a)). ⊎-elim
-    (λ (e : a ≡ b). inr (e, let f : a * P ≡ b * P = ap (λ (n : ℕ). n * P) e in omega arith))
-    (λ (g : b < a). absurd (let f = above b a P y x k g in omega arith)) t)
-    (tri a b)
-
-lex-to : (a b P x y : ℕ) → x < P → (a < b) ⊎ ((a ≡ b) × (x < y)) → a * P + x < b * P + y
-lex-to a b P x y h (inl l) = above a b P x y h l
-lex-to a b P x y h (inr t) = let f : a * P ≡ b * P = ap (λ (n : ℕ). n * P) (t .0) in omega (arith, t .1)
+    (λ (t : b ≤ a). ⊎-elim
+    (λ (e : b ≡ a). inr (sym e, let f : b * P ≡ a * P = ap (λ (n : ℕ). n * P) e in omega arith))
+    (λ (g : b < a). absurd (let f = above b a P y x k g in omega arith)) (eq-or-lt-of-le t))
+    (lt-or a b)
 
 -- ---- what bytes spell
 spelled-lt : (u : List ℕ) → Bytes u → spelled u < 256 ^ length u
@@ -67,16 +54,6 @@ first-of (a ∷ u) (b ∷ v) bu bv e l =
     ⊎-elim (λ (s : a < b). inl s) (λ (t : (a ≡ b) × (spelled u < spelled v)). inr (t .0, first-of u v (λ i. bu (suc i)) (λ i. bv (suc i)) d (t .1)))
     (lex-from a b (256 ^ length u) (spelled u) (spelled v) (spelled-lt u (λ i. bu (suc i))) k l′)
 
-pub of-first : (u v : List ℕ) → Bytes u → Bytes v → length u ≡ length v → First u v → spelled u < spelled v
-unfolding spelled
-of-first [] v bu bv e f = absurd f
-of-first (a ∷ u) [] bu bv e f = absurd f
-of-first (a ∷ u) (b ∷ v) bu bv e f =
-    let d : length v ≡ length u = omega arith in
-    let g : (a < b) ⊎ ((a ≡ b) × (spelled u < spelled v)) =
-    ⊎-elim (λ (s : a < b). inl s) (λ (t : (a ≡ b) × First u v). inr (t .0, of-first u v (λ i. bu (suc i)) (λ i. bv (suc i)) (sym d) (t .1))) f in
-    rw d (lex-to a b (256 ^ length u) (spelled u) (spelled v) (spelled-lt u (λ i. bu (suc i))) g)
-
 -- ---- entries
 first-not : (s : List ℕ) → First s s → ⊥
 first-not [] f = f
@@ -88,12 +65,6 @@ pad-off [] (b ∷ t) z e f = absurd (omega arith)
 pad-off (a ∷ s) [] z e f = absurd (omega arith)
 pad-off (a ∷ s) (b ∷ t) z e f =
     ⊎-elim (λ (l : a < b). inl l) (λ (p : (a ≡ b) × First (s ++ z) (t ++ z)). inr (p .0, pad-off s t z (omega arith) (p .1))) f
-
-pad-on : (s t z w : List ℕ) → First s t → First (s ++ z) (t ++ w)
-pad-on [] t z w f = absurd f
-pad-on (a ∷ s) [] z w f = absurd f
-pad-on (a ∷ s) (b ∷ t) z w f =
-    ⊎-elim (λ (l : a < b). inl l) (λ (p : (a ≡ b) × First s t). inr (p .0, pad-on s t z w (p .1))) f
 
 zeros : (n : ℕ) → Bytes (replicate n 0)
 zeros zero = no-bytes
@@ -120,31 +91,6 @@ key-before s t bs bt hs ht l =
     ))
     (first-of (entry s) (entry t) (entry-bytes s hs bs) (entry-bytes t ht bt) (entry-length s hs ∙ sym (entry-length t ht)) l)
 
-pub before-key : (s t : List ℕ) → Bytes s → Bytes t → length s ≤ 7 → length t ≤ 7 → Before s t → key s < key t
-unfolding key entry
-before-key s t bs bt hs ht f =
-    of-first (entry s) (entry t) (entry-bytes s hs bs) (entry-bytes t ht bt) (entry-length s hs ∙ sym (entry-length t ht))
-    (⊎-elim (λ (a : length s < length t). inl a)
-    (λ (p : (length s ≡ length t) × First s t). inr (p .0, pad-on s t (replicate (7 - length s) 0) (replicate (7 - length t) 0) (p .1))) f)
-
--- ---- it is a strict order, and in a rising list each string is before every later one
-first-next : (s t u : List ℕ) → First s t → First t u → First s u
-first-next [] t u f g = absurd f
-first-next (a ∷ s) [] u f g = absurd f
-first-next (a ∷ s) (b ∷ t) [] f g = absurd g
-first-next (a ∷ s) (b ∷ t) (c ∷ u) f g =
-    ⊎-elim
-    (λ (l : a < b). ⊎-elim (λ (k : b < c). inl (omega arith)) (λ (q : (b ≡ c) × First t u). inl (omega (arith, q .0))) g)
-    (λ (p : (a ≡ b) × First s t). ⊎-elim (λ (k : b < c). inl (omega (arith, p .0))) (λ (q : (b ≡ c) × First t u). inr (p .0 ∙ q .0, first-next s t u (p .1) (q .1))) g)
-    f
-
+-- no string is before itself, so each stands once
 pub before-not : (s : List ℕ) → Before s s → ⊥
 before-not s f = ⊎-elim (λ (l : length s < length s). omega arith) (λ (p : (length s ≡ length s) × First s s). first-not s (p .1)) f
-
-pub before-next : (s t u : List ℕ) → Before s t → Before t u → Before s u
-before-next s t u f g =
-    ⊎-elim
-    (λ (l : length s < length t). ⊎-elim (λ (k : length t < length u). inl (omega arith)) (λ (q : (length t ≡ length u) × First t u). inl (omega (arith, q .0))) g)
-    (λ (p : (length s ≡ length t) × First s t). ⊎-elim (λ (k : length t < length u). inl (omega (arith, p .0)))
-    (λ (q : (length t ≡ length u) × First t u). inr (p .0 ∙ q .0, first-next s t u (p .1) (q .1))) g)
-    f

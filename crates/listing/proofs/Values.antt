@@ -12,14 +12,19 @@ use Rattle.mrc_compiler.specs.declared.ast.Segment.{Segment}
 use Rattle.mrc_compiler.specs.declared.ast.Segment.the-variants as G
 use Rattle.mrc_compiler.specs.Builders.{prefixFor}
 use Rattle.mrc_compiler.specs.Choose.{pick, either}
+use Rattle.x86.specs.declared.Operand.{Operand}
 use Rattle.x86.specs.declared.Operand.the-variants as O
 use Rattle.x86.specs.Instructions.{inEffect}
 use Rattle.x86.specs.Forms.{Slot, rm, rm-near, mem, reg, sreg, sreg-not-cs, acc, low3, bits34, bits34-not-cs, CL, DX, one, moffs, xlat, ib, iw, ib-sx, cb, cw, ptr, nil}
-use Rattle.x86.specs.Reading.{mode, low, displacementLength, about, addressLength, inMemory, displacementAt, memoryAt, rmAt, at, prefix}
+use Rattle.x86.specs.Reading.{Place, nowhere, by-modrm, by-address, by-bx-al, mode, low, displacementLength, about, addressLength, inMemory, displacementAt, memoryAt, rmAt, at, prefix}
 use Rattle.x86.specs.Listing.{Bytes}
 use Rattle.answers.specs.Layout.{wordBytes}
-use Rattle.listing.specs.Operands.{prefixIn, displacementIn, valueIn, farSegmentIn}
-use Rattle.listing.specs.Candidates.{byteOf, displacementBytes, distance}
+use Rattle.x86.specs.Operands.{displacementIn, valueIn, farSegmentIn}
+use Rattle.listing.specs.Operands.{prefixIn}
+use Rattle.listing.specs.Candidates.{byteOf, displacementBytes, distance, tailBytes}
+use Rattle.listing.specs.declared.Tail.{Tail}
+use Rattle.listing.specs.declared.Tail.the-variants as L
+use Rattle.listing.proofs.ByForm.{tailIn, tailNumber}
 
 -- ---- numbers and their bytes
 extended : (b : ℕ) (q : Bool) → ltb b 128 ≡ q → b < 256 → pick q b (b + 65280) % 256 ≡ b
@@ -101,32 +106,6 @@ rm-displacement p x t = go (ltb (mode x) 3) refl
     go true e = rw e refl
     go false e = rw (e, register-length (mode x) (low x) (ltb-false (mode x) 3 e)) refl
 
--- the displacement that a slot has is that of its address bytes
-pub displacement-at : (a : Slot) (p c x next : ℕ) (t u : List ℕ)
-    → displacementIn (at a p c x next t u) ≡ displacementAt (addressLength (about a .place) x) t
-displacement-at (rm w) p c x next t u = rm-displacement p x t
-displacement-at rm-near p c x next t u = rm-displacement p x t
-displacement-at mem p c x next t u = rm-displacement p x t
-displacement-at (reg w) p c x next t u = refl
-displacement-at sreg p c x next t u = refl
-displacement-at sreg-not-cs p c x next t u = refl
-displacement-at (acc w) p c x next t u = refl
-displacement-at (low3 w) p c x next t u = refl
-displacement-at bits34 p c x next t u = refl
-displacement-at bits34-not-cs p c x next t u = refl
-displacement-at CL p c x next t u = refl
-displacement-at DX p c x next t u = refl
-displacement-at one p c x next t u = refl
-displacement-at (moffs w) p c x next t u = refl
-displacement-at xlat p c x next t u = refl
-displacement-at ib p c x next t u = refl
-displacement-at iw p c x next t u = refl
-displacement-at ib-sx p c x next t u = refl
-displacement-at cb p c x next t u = refl
-displacement-at cw p c x next t u = refl
-displacement-at ptr p c x next t u = refl
-displacement-at nil p c x next t u = refl
-
 -- ---- the prefix
 -- a prefix byte names its segment
 prefix-named : (p : ℕ) → prefix p ≡ true → (default : Segment) → prefixFor (inEffect p default) ≡ p
@@ -148,115 +127,34 @@ rm-prefix p x t e = go (ltb (mode x) 3)
     go true = prefix-named p e _
     go false = refl
 
--- memory behind a prefix is in its segment
-pub prefix-at : (a : Slot) (p c x next : ℕ) (t u : List ℕ) → prefix p ≡ true
-    → prefixIn (at a p c x next t u) ≡ pick (inMemory (about a .place) x) p 0
-prefix-at (rm w) p c x next t u e = rm-prefix p x t e
-prefix-at rm-near p c x next t u e = rm-prefix p x t e
-prefix-at mem p c x next t u e = rm-prefix p x t e
-prefix-at (reg w) p c x next t u e = refl
-prefix-at sreg p c x next t u e = refl
-prefix-at sreg-not-cs p c x next t u e = refl
-prefix-at (acc w) p c x next t u e = refl
-prefix-at (low3 w) p c x next t u e = refl
-prefix-at bits34 p c x next t u e = refl
-prefix-at bits34-not-cs p c x next t u e = refl
-prefix-at CL p c x next t u e = refl
-prefix-at DX p c x next t u e = refl
-prefix-at one p c x next t u e = refl
-prefix-at (moffs w) p c x next t u e = prefix-named p e G.DS
-prefix-at xlat p c x next t u e = prefix-named p e G.DS
-prefix-at ib p c x next t u e = refl
-prefix-at iw p c x next t u e = refl
-prefix-at ib-sx p c x next t u e = refl
-prefix-at cb p c x next t u e = refl
-prefix-at cw p c x next t u e = refl
-prefix-at ptr p c x next t u e = refl
-prefix-at nil p c x next t u e = refl
-
--- ---- the immediate
--- the immediate bytes of a slot: value v, or target v with the segment s
-abbrev pub immediateBytes : Slot → ℕ → ℕ → ℕ → List ℕ
-immediateBytes (rm w) off v s = []
-immediateBytes rm-near off v s = []
-immediateBytes mem off v s = []
-immediateBytes (reg w) off v s = []
-immediateBytes sreg off v s = []
-immediateBytes sreg-not-cs off v s = []
-immediateBytes (acc w) off v s = []
-immediateBytes (low3 w) off v s = []
-immediateBytes bits34 off v s = []
-immediateBytes bits34-not-cs off v s = []
-immediateBytes CL off v s = []
-immediateBytes DX off v s = []
-immediateBytes one off v s = []
-immediateBytes (moffs w) off v s = []
-immediateBytes xlat off v s = []
-immediateBytes ib off v s = byteOf v
-immediateBytes iw off v s = wordBytes v
-immediateBytes ib-sx off v s = byteOf v
-immediateBytes cb off v s = byteOf (distance v off 2)
-immediateBytes cw off v s = wordBytes (distance v off 3)
-immediateBytes ptr off v s = wordBytes v ++ wordBytes s
-immediateBytes nil off v s = []
+-- ---- the immediate of a tail, by the tail's kind: value v, or target v with the segment s
+abbrev pub immediateBytes : Tail → ℕ → ℕ → ℕ → List ℕ
+immediateBytes L.None off v s = []
+immediateBytes L.Byte off v s = byteOf v
+immediateBytes L.Word off v s = wordBytes v
+immediateBytes L.Near8 off v s = byteOf (distance v off 2)
+immediateBytes L.Near16 off v s = wordBytes (distance v off 3)
+immediateBytes L.Far off v s = wordBytes v ++ wordBytes s
+immediateBytes L.Address off v s = []
 
 -- the length of an instruction with a near target
-abbrev pub near : Slot → ℕ
-near (rm w) = 0
-near rm-near = 0
-near mem = 0
-near (reg w) = 0
-near sreg = 0
-near sreg-not-cs = 0
-near (acc w) = 0
-near (low3 w) = 0
-near bits34 = 0
-near bits34-not-cs = 0
-near CL = 0
-near DX = 0
-near one = 0
-near (moffs w) = 0
-near xlat = 0
-near ib = 0
-near iw = 0
-near ib-sx = 0
-near cb = 2
-near cw = 3
-near ptr = 0
-near nil = 0
+abbrev pub near : Tail → ℕ
+near L.None = 0
+near L.Byte = 0
+near L.Word = 0
+near L.Near8 = 2
+near L.Near16 = 3
+near L.Far = 0
+near L.Address = 0
 
--- the immediate bytes of a slot are those of the value that they give
-pub immediate-back : (a : Slot) (off p c x next : ℕ) (t u : List ℕ) → off < 65536 → Bytes u → length u ≡ about a .takes → (0 < near a → next ≡ off + near a)
-    → u ≡ immediateBytes a off (valueIn (at a p c x next t u)) (farSegmentIn (at a p c x next t u))
-immediate-back (rm w) off p c x next t u h bs e n = no-more u e
-immediate-back rm-near off p c x next t u h bs e n = no-more u e
-immediate-back mem off p c x next t u h bs e n = no-more u e
-immediate-back (reg w) off p c x next t u h bs e n = no-more u e
-immediate-back sreg off p c x next t u h bs e n = no-more u e
-immediate-back sreg-not-cs off p c x next t u h bs e n = no-more u e
-immediate-back (acc w) off p c x next t u h bs e n = no-more u e
-immediate-back (low3 w) off p c x next t u h bs e n = no-more u e
-immediate-back bits34 off p c x next t u h bs e n = no-more u e
-immediate-back bits34-not-cs off p c x next t u h bs e n = no-more u e
-immediate-back CL off p c x next t u h bs e n = no-more u e
-immediate-back DX off p c x next t u h bs e n = no-more u e
-immediate-back one off p c x next t u h bs e n = no-more u e
-immediate-back (moffs w) off p c x next t u h bs e n = no-more u e
-immediate-back xlat off p c x next t u h bs e n = no-more u e
-immediate-back ib off p c x next t u h bs e n = single _ u e (omega (arith, bs 0))
-immediate-back iw off p c x next t u h bs e n = double _ u e (word-low _ _ (bs 0)) (word-high _ _ (bs 0) (bs 1))
-immediate-back ib-sx off p c x next t u h bs e n = single _ u e (extended _ _ refl (bs 0))
-immediate-back cb off p c x next t u h bs e n = rw (n (omega arith)) (single _ u e (far-byte _ off _ refl (bs 0) h))
-immediate-back cw off p c x next t u h bs e n = rw (n (omega arith)) (double _ u e (far-low _ _ off (bs 0) (bs 1) h) (far-high _ _ off (bs 0) (bs 1) h))
-immediate-back ptr off p c x next t u h bs e n = words u e bs
-immediate-back nil off p c x next t u h bs e n = no-more u e
+-- an address that is no displacement
+abbrev pub addressOnly : Place → ℕ
+addressOnly nowhere = 0
+addressOnly by-modrm = 0
+addressOnly by-address = 2
+addressOnly by-bx-al = 0
 
--- a slot that takes no immediate bytes has none and gives no value
-pub record Quiet (a : Slot) (off p c x next : ℕ) (t u : List ℕ) : Type 0 where
-  pub value : valueIn (at a p c x next t u) ≡ 0
-  pub segment : farSegmentIn (at a p c x next t u) ≡ 0
-  pub bytes : (v s : ℕ) → immediateBytes a off v s ≡ []
-
+-- ---- a slot
 rm-value : (p x : ℕ) (t : List ℕ) → valueIn (rmAt p x t) ≡ 0
 rm-value p x t = go (ltb (mode x) 3)
   where
@@ -271,52 +169,89 @@ rm-segment p x t = go (ltb (mode x) 3)
     go true = refl
     go false = refl
 
-pub quiet : (a : Slot) (off p c x next : ℕ) (t u : List ℕ) → about a .takes ≡ 0 → Quiet a off p c x next t u
-quiet (rm w) off p c x next t u e = record { value = rm-value p x t; segment = rm-segment p x t; bytes = λ v s. refl }
-quiet rm-near off p c x next t u e = record { value = rm-value p x t; segment = rm-segment p x t; bytes = λ v s. refl }
-quiet mem off p c x next t u e = record { value = rm-value p x t; segment = rm-segment p x t; bytes = λ v s. refl }
-quiet (reg w) off p c x next t u e = record { value = refl; segment = refl; bytes = λ v s. refl }
-quiet sreg off p c x next t u e = record { value = refl; segment = refl; bytes = λ v s. refl }
-quiet sreg-not-cs off p c x next t u e = record { value = refl; segment = refl; bytes = λ v s. refl }
-quiet (acc w) off p c x next t u e = record { value = refl; segment = refl; bytes = λ v s. refl }
-quiet (low3 w) off p c x next t u e = record { value = refl; segment = refl; bytes = λ v s. refl }
-quiet bits34 off p c x next t u e = record { value = refl; segment = refl; bytes = λ v s. refl }
-quiet bits34-not-cs off p c x next t u e = record { value = refl; segment = refl; bytes = λ v s. refl }
-quiet CL off p c x next t u e = record { value = refl; segment = refl; bytes = λ v s. refl }
-quiet DX off p c x next t u e = record { value = refl; segment = refl; bytes = λ v s. refl }
-quiet one off p c x next t u e = record { value = refl; segment = refl; bytes = λ v s. refl }
-quiet (moffs w) off p c x next t u e = record { value = refl; segment = refl; bytes = λ v s. refl }
-quiet xlat off p c x next t u e = record { value = refl; segment = refl; bytes = λ v s. refl }
-quiet ib off p c x next t u e = absurd (omega arith)
-quiet iw off p c x next t u e = absurd (omega arith)
-quiet ib-sx off p c x next t u e = absurd (omega arith)
-quiet cb off p c x next t u e = absurd (omega arith)
-quiet cw off p c x next t u e = absurd (omega arith)
-quiet ptr off p c x next t u e = absurd (omega arith)
-quiet nil off p c x next t u e = record { value = refl; segment = refl; bytes = λ v s. refl }
+module _ (off p x next : ℕ) (t u : List ℕ) where
+  -- what the bytes t (address) and u (immediate) of a slot have to do with its operand o, where memory is at l, the immediate takes k bytes and the tail is y
+  pub record Holds (o : Operand) (l : Place) (k : ℕ) (y : Tail) : Type 0 where
+    -- the displacement is that of the address bytes
+    pub displacement : displacementIn o ≡ displacementAt (addressLength l x) t
+    -- memory behind a prefix is in its segment
+    pub prefixed : prefix p ≡ true → prefixIn o ≡ pick (inMemory l x) p 0
+    -- values fit a word
+    pub small : Bytes u → (valueIn o < 65536) × (farSegmentIn o < 65536)
+    -- without immediate bytes there is no value
+    pub quiet : k ≡ 0 → (valueIn o ≡ 0) × (farSegmentIn o ≡ 0) × ((v s : ℕ) → immediateBytes y off v s ≡ [])
+    -- the immediate bytes are those of the value that they give
+    pub back : off < 65536 → Bytes u → length u ≡ k → (0 < near y → next ≡ off + near y) → u ≡ immediateBytes y off (valueIn o) (farSegmentIn o)
+    -- the tail is address and immediate
+    pub tail : (d v s : ℕ) → tailBytes y off d v s ≡ displacementBytes (addressOnly l) d ++ immediateBytes y off v s
+    pub address : tailNumber y ≡ 0 → addressOnly l ≡ 0
 
--- values fit a word
-pub value-small : (a : Slot) (p c x next : ℕ) (t u : List ℕ) → Bytes u
-    → (valueIn (at a p c x next t u) < 65536) × (farSegmentIn (at a p c x next t u) < 65536)
-value-small (rm w) p c x next t u bs = (omega (arith, rm-value p x t), omega (arith, rm-segment p x t))
-value-small rm-near p c x next t u bs = (omega (arith, rm-value p x t), omega (arith, rm-segment p x t))
-value-small mem p c x next t u bs = (omega (arith, rm-value p x t), omega (arith, rm-segment p x t))
-value-small (reg w) p c x next t u bs = (omega arith, omega arith)
-value-small sreg p c x next t u bs = (omega arith, omega arith)
-value-small sreg-not-cs p c x next t u bs = (omega arith, omega arith)
-value-small (acc w) p c x next t u bs = (omega arith, omega arith)
-value-small (low3 w) p c x next t u bs = (omega arith, omega arith)
-value-small bits34 p c x next t u bs = (omega arith, omega arith)
-value-small bits34-not-cs p c x next t u bs = (omega arith, omega arith)
-value-small CL p c x next t u bs = (omega arith, omega arith)
-value-small DX p c x next t u bs = (omega arith, omega arith)
-value-small one p c x next t u bs = (omega arith, omega arith)
-value-small (moffs w) p c x next t u bs = (omega arith, omega arith)
-value-small xlat p c x next t u bs = (omega arith, omega arith)
-value-small ib p c x next t u bs = (omega (arith, bs 0), omega arith)
-value-small iw p c x next t u bs = (omega (arith, bs 0, bs 1), omega arith)
-value-small ib-sx p c x next t u bs = (extended-small (getD u 0 0) (ltb (getD u 0 0) 128) (bs 0), omega arith)
-value-small cb p c x next t u bs = (omega arith, omega arith)
-value-small cw p c x next t u bs = (omega arith, omega arith)
-value-small ptr p c x next t u bs = (omega (arith, bs 0, bs 1), omega (arith, bs 2, bs 3))
-value-small nil p c x next t u bs = (omega arith, omega arith)
+  -- no immediate and no address
+  still : {o : Operand} {l : Place} → addressOnly l ≡ 0 → displacementIn o ≡ displacementAt (addressLength l x) t
+      → (prefix p ≡ true → prefixIn o ≡ pick (inMemory l x) p 0) → valueIn o ≡ 0 → farSegmentIn o ≡ 0 → Holds o l 0 L.None
+  still a d q v s =
+      record {
+        displacement = d;
+        prefixed = q;
+        small = λ _. (omega arith, omega arith);
+        quiet = λ _. (v, s, λ _ _. refl);
+        back = λ _ _ e _. no-more u e;
+        tail = λ _ _ _. rw a refl;
+        address = λ _. a;
+      }
+
+  plain : {o : Operand} → displacementIn o ≡ 0 → prefixIn o ≡ 0 → valueIn o ≡ 0 → farSegmentIn o ≡ 0 → Holds o nowhere 0 L.None
+  plain d q v s = still refl d (λ _. q) v s
+
+  in-rm : Holds (rmAt p x t) by-modrm 0 L.None
+  in-rm = still refl (rm-displacement p x t) (rm-prefix p x t) (rm-value p x t) (rm-segment p x t)
+
+  -- an immediate alone
+  given : {o : Operand} {k : ℕ} {y : Tail} → displacementIn o ≡ 0 → prefixIn o ≡ 0 → 0 < k → (Bytes u → (valueIn o < 65536) × (farSegmentIn o < 65536))
+      → ((d v s : ℕ) → tailBytes y off d v s ≡ immediateBytes y off v s)
+      → (off < 65536 → Bytes u → length u ≡ k → (0 < near y → next ≡ off + near y) → u ≡ immediateBytes y off (valueIn o) (farSegmentIn o))
+      → Holds o nowhere k y
+  given d q n l e b =
+      record { displacement = d; prefixed = λ _. q; small = l; quiet = λ z. absurd (omega arith); back = b; tail = e; address = λ _. refl }
+
+  pub holds : (c : ℕ) (a : Slot) → Holds (at a p c x next t u) (about a .place) (about a .takes) (tailIn a)
+  holds c (rm w) = in-rm
+  holds c rm-near = in-rm
+  holds c mem = in-rm
+  holds c (reg w) = plain refl refl refl refl
+  holds c sreg = plain refl refl refl refl
+  holds c sreg-not-cs = plain refl refl refl refl
+  holds c (acc w) = plain refl refl refl refl
+  holds c (low3 w) = plain refl refl refl refl
+  holds c bits34 = plain refl refl refl refl
+  holds c bits34-not-cs = plain refl refl refl refl
+  holds c CL = plain refl refl refl refl
+  holds c DX = plain refl refl refl refl
+  holds c one = plain refl refl refl refl
+  holds c (moffs w) =
+      record {
+        displacement = refl;
+        prefixed = λ e. prefix-named p e G.DS;
+        small = λ _. (omega arith, omega arith);
+        quiet = λ _. (refl, refl, λ _ _. refl);
+        back = λ _ _ e _. no-more u e;
+        tail = λ _ _ _. refl;
+        address = λ e. absurd (omega arith);
+      }
+  holds c xlat = still refl refl (λ e. prefix-named p e G.DS) refl refl
+  holds c ib = given refl refl (omega arith) (λ bs. (omega (arith, bs 0), omega arith)) (λ _ _ _. refl) (λ _ bs e _. single _ u e (omega (arith, bs 0)))
+  holds c iw =
+      given refl refl (omega arith) (λ bs. (omega (arith, bs 0, bs 1), omega arith)) (λ _ _ _. refl)
+      (λ _ bs e _. double _ u e (word-low _ _ (bs 0)) (word-high _ _ (bs 0) (bs 1)))
+  holds c ib-sx =
+      given refl refl (omega arith) (λ bs. (extended-small (getD u 0 0) (ltb (getD u 0 0) 128) (bs 0), omega arith)) (λ _ _ _. refl)
+      (λ _ bs e _. single _ u e (extended _ _ refl (bs 0)))
+  holds c cb =
+      given refl refl (omega arith) (λ _. (omega arith, omega arith)) (λ _ _ _. refl)
+      (λ h bs e n. rw (n (omega arith)) (single _ u e (far-byte _ off _ refl (bs 0) h)))
+  holds c cw =
+      given refl refl (omega arith) (λ _. (omega arith, omega arith)) (λ _ _ _. refl)
+      (λ h bs e n. rw (n (omega arith)) (double _ u e (far-low _ _ off (bs 0) (bs 1) h) (far-high _ _ off (bs 0) (bs 1) h)))
+  holds c ptr =
+      given refl refl (omega arith) (λ bs. (omega (arith, bs 0, bs 1), omega (arith, bs 2, bs 3))) (λ _ _ _. refl) (λ _ bs e _. words u e bs)
+  holds c nil = plain refl refl refl refl

@@ -10,13 +10,13 @@ use Rattle.x86.specs.declared.Instruction.{Instruction}
 use Rattle.groups.specs.declared.Group.{Group}
 use Rattle.groups.specs.declared.Group.the-variants as Gr
 use Rattle.groups.specs.Grouping.{groupedOf}
-use Rattle.listing.specs.declared.Outline.{Outline}
+use Rattle.x86.specs.declared.operands.Outline.{Outline}
 use Rattle.listing.specs.declared.Second.{Second}
 use Rattle.listing.specs.declared.Second.the-variants as X
 use Rattle.listing.specs.declared.Tail.{Tail}
 use Rattle.listing.specs.declared.Tail.the-variants as L
 use Rattle.listing.specs.declared.Start.{Start}
-use Rattle.listing.specs.Operands.{aRegister, aSegment, inMemory, anImmediate, aNear, aFar, outlineOf}
+use Rattle.x86.specs.Operands.{aRegister, aSegment, inMemory, anImmediate, aNear, aFar, outlineOf}
 
 abbrev pub start : ℕ → Second → Tail → Start
 start c x t = record { opcode = c; second = x; tail = t }

@@ -1,12 +1,5 @@
 // The listing of demand 3 as definitions and theorems, and the values that its code hands on.
 
-// An operand without its values: its kind (0 none, 1 register, 2 segment register, 3 memory, 4 immediate, 5 near target, 6 far target, 7 the
-// constant 1), and its register's number or base.
-pub struct Outline {
-    pub kind: u8,
-    pub number: u8,
-}
-
 // The byte behind an opcode.
 pub enum Second {
     None,

@@ -1,36 +1,35 @@
--- The laws that the loader's loops rest on: the first record of a kind, the walk over the records, and the part of the image that is lent.
+-- The laws that the loader's loops rest on: the first record of a kind, the step over a record, and what stands at the front of a lent slice.
 -- Assumes nothing.
 use mathlib.Core.Path.{_≡_, refl, sym, _∙_}
 use mathlib.Core.Bool.{Bool, true, false}
-use mathlib.Core.List.{List, [], _++_, append-assoc, append-nil}
+use mathlib.Core.List.{List, [], _∷_, _++_, append-assoc, append-nil}
 use mathlib.Core.Logic.{⊎-elim}
-use Prim.Native.Nat.{ℕ, zero, suc, _+_, _-_, _%_, _<_, _≤_}
+use Prim.Native.Nat.{ℕ, zero, suc, _+_, _*_, _-_, _<_, _≤_}
 use native.Mathlib.Nat.{le-of-suc-le-suc, eq-or-lt-of-le}
 use native.Mathlib.Numerals.{add-one}
 use native.Mathlib.Omega.{arith}
 use lib.Dec.{eqb, ltb, leb}
 use lib.ListN.{length, take, drop, length-append, length-drop, drop-of-length-le}
 use lib.Seq.{length-take-le, take-all, take-append-seam, drop-append-seam, drop-drop}
-use borrow.Author.Tests.{ltb-true, ltb-false, leb-true, eqb-true, le-ltb, lt-ltb, le-leb}
+use borrow.Author.Tests.{ltb-true, ltb-false, leb-true, eqb-true, le-ltb, lt-ltb}
 use borrow.Rule.Slice.PartMut.{putMid}
-use Rattle.mrc_compiler.specs.declared.ast.Span.{Span}
 use Rattle.mrc_compiler.specs.declared.encoder.EncodeError.{EncodeError}
-use Rattle.mrc_compiler.specs.declared.encoder.Encoded.{Encoded}
-use Rattle.mrc_compiler.specs.declared.encoder.Encoded.the-variants as N
-use Rattle.mrc_compiler.specs.declared.encoder.InstructionData.{InstructionData}
 use Rattle.mrc_compiler.specs.Choose.{pick, both, isnt}
-use Rattle.answers.specs.Answer.{Answer, bytes, refused, answer, outcome, sliceAfter}
-use Rattle.answers.proofs.Accepted.{accepted-reads}
-use Rattle.encoder.specs.Lengths.{lengthOf}
+use Rattle.answers.specs.Answer.{Answer, bytes, refused}
+use Rattle.answers.proofs.Outcomes.{Short, answer-short}
+use Rattle.emitter.specs.Run.{emptyRun}
+use Rattle.emit.specs.declared.Emitted.{Emitted}
+use Rattle.emit.specs.declared.Refusal.the-variants as R
+use Rattle.emit.specs.Emit.{emitted}
 use Rattle.records.specs.Record.{codesKnown}
 use Rattle.loader.specs.declared.Header.{Header}
 use Rattle.loader.specs.declared.LoadError.{LoadError}
 use Rattle.loader.specs.declared.LoadError.the-variants as LE
-use Rattle.loader.specs.declared.Measured.the-variants as M
+use Rattle.loader.specs.declared.Loaded.the-variants as L
+use Rattle.loader.specs.declared.Opened.{Opened}
 use Rattle.loader.specs.declared.Opened.the-variants as O
 use Rattle.loader.specs.Show.{headerLength, knownVersion, mostRecords, hasMark, header, recordPlace, recordAt, insnAt, headed, opened}
-use Rattle.loader.specs.Loading.{Walk, all, stopped, offsetBehind, followed, walk, bytesIn, firstFrom, isUnknown, isOver, firstOver}
-use Rattle.loader.specs.Steps.{isAll, measured}
+use Rattle.loader.specs.Loading.{Walk, all, stopped, offsetBehind, answerAt, bytesOf, followed, further, walk, bytesIn, isAll, firstFrom, isUnknown, isOver, firstUnknown, firstOver, measured, showAccepted, acceptedBy, accepted}
 
 -- ---- the first that says yes
 from-step : (f : ℕ → Bool) (n i : ℕ) → i < n → firstFrom f (n - i) i ≡ pick (f i) i (firstFrom f (n - (i + 1)) (i + 1))
@@ -53,38 +52,43 @@ from-no f n i h e t = e ∙ from-step f n i h ∙ rw t
 pub handed-is : (file : List ℕ) (k from : ℕ) → from ≡ recordPlace k → take (from + 56 - from) (drop from file) ≡ recordAt file k
 handed-is file k from q = let e : from + 56 - from ≡ 56 = omega arith in rw (e, q) refl
 
--- ---- an answer's bytes
-abbrev pub given : Answer → List ℕ
-given (bytes bs) = bs
-given (refused e) = []
+-- ---- a code that is not known
+pub unknown-is : (file : List ℕ) (k : ℕ) (r t : Bool) → r ≡ codesKnown (recordAt file k) → r ≡ t → isUnknown file k ≡ isnt t
+unfolding isUnknown
+unknown-is file k r t q e = rw (← q, e) refl
 
-abbrev pub Short : Answer → Type 0
-Short (bytes bs) = length bs ≤ 7
-Short (refused e) = Unit {0}
+-- ---- the run of an answer: its bytes, at most seven; none of a refusal
+pub record Ran (d : Emitted) (bs : List ℕ) : Type 0 where
+  pub shown : take (d .run .len) (d .run .bytes) ≡ bs
+  pub count : d .run .len ≡ length bs
+  pub whole : length (d .run .bytes) ≡ 7
+  pub short : length bs ≤ 7
 
-pub short-by : (insn : InstructionData) (off : ℕ) → off < 65536 → (a : Answer) → answer insn off ≡ a → Short a
-short-by insn off h (bytes bs) q = accepted-reads insn off h bs q .short
-short-by insn off h (refused e) q = tt
+ran-bytes : (bs : List ℕ) → length bs ≤ 7 → Ran (emitted emptyRun (bytes bs)) bs
+ran-bytes [] h = record { shown = refl; count = refl; whole = refl; short = h }
+ran-bytes (a ∷ []) h = record { shown = refl; count = refl; whole = refl; short = h }
+ran-bytes (a ∷ b ∷ []) h = record { shown = refl; count = refl; whole = refl; short = h }
+ran-bytes (a ∷ b ∷ c ∷ []) h = record { shown = refl; count = refl; whole = refl; short = h }
+ran-bytes (a ∷ b ∷ c ∷ d ∷ []) h = record { shown = refl; count = refl; whole = refl; short = h }
+ran-bytes (a ∷ b ∷ c ∷ d ∷ e ∷ []) h = record { shown = refl; count = refl; whole = refl; short = h }
+ran-bytes (a ∷ b ∷ c ∷ d ∷ e ∷ f ∷ []) h = record { shown = refl; count = refl; whole = refl; short = h }
+ran-bytes (a ∷ b ∷ c ∷ d ∷ e ∷ f ∷ g ∷ []) h = record { shown = refl; count = refl; whole = refl; short = h }
+ran-bytes (a ∷ b ∷ c ∷ d ∷ e ∷ f ∷ g ∷ x ∷ bs) h = absurd (omega arith)
 
-length-is : (a : Answer) (m : ℕ) → lengthOf a ≡ N.Length m → a ≡ bytes (given a)
-length-is (bytes bs) m q = refl
-length-is (refused e) m q = let z : _≡_ {A = ℕ} 0 1 = cc in absurd (omega arith)
+ran-by : (a : Answer) → Short a → Ran (emitted emptyRun a) (bytesOf a)
+ran-by (bytes bs) h = ran-bytes bs h
+ran-by (refused e) h = record { shown = refl; count = refl; whole = refl; short = omega arith }
 
-length-given : (a : Answer) (m : ℕ) → lengthOf a ≡ N.Length m → m ≡ length (given a)
-length-given (bytes bs) m q = cc
-length-given (refused e) m q = let z : _≡_ {A = ℕ} 0 1 = cc in absurd (omega arith)
+pub answer-at-short : (file : List ℕ) (origin k at : ℕ) → Short (answerAt file origin k at)
+answer-at-short file origin k at = answer-short (insnAt file k) (offsetBehind origin at) (omega arith)
 
-length-short : (a : Answer) (m : ℕ) → Short a → lengthOf a ≡ N.Length m → m ≤ 7
-length-short (bytes bs) m s q = let e : m ≡ length bs = cc in rw e s
-length-short (refused e) m s q = let z : _≡_ {A = ℕ} 0 1 = cc in absurd (omega arith)
-
-refused-is : (a : Answer) (e : EncodeError) → lengthOf a ≡ N.Refused e → a ≡ refused e
-refused-is (bytes bs) e q = let z : _≡_ {A = ℕ} 0 1 = cc in absurd (omega arith)
-refused-is (refused x) e q = cc
+-- what run_at gives
+pub ran : (file : List ℕ) (origin k at : ℕ) (d : Emitted) → d ≡ emitted emptyRun (answerAt file origin k at) → Ran d (bytesOf (answerAt file origin k at))
+ran file origin k at d hd = rw hd (ran-by (answerAt file origin k at) (answer-at-short file origin k at))
 
 -- ---- the walk
 walk-next : (file : List ℕ) (origin k : ℕ) (bs : List ℕ) → walk file origin k ≡ all bs
-    → walk file origin (suc k) ≡ followed k bs (answer (insnAt file k) (offsetBehind origin bs))
+    → walk file origin (suc k) ≡ followed k bs (answerAt file origin k (length bs))
 unfolding walk
 walk-next file origin k bs e = rw e
 
@@ -98,6 +102,10 @@ stays file origin k zero i e q h = let z : k ≡ 0 = omega arith in rw z at q
 stays file origin k (suc n) i e q h =
     ⊎-elim (λ z. rw z at q) (λ l. walk-on file origin n i e (stays file origin k n i e q (le-of-suc-le-suc l))) (eq-or-lt-of-le h)
 
+-- ---- where all are accepted
+all-not-stopped : {k : ℕ} {e : EncodeError} {w : Walk} → isAll w ≡ true → w ≡ stopped k e → ⊥
+all-not-stopped t q = let f : false ≡ true = rw q at t in let z : _≡_ {A = ℕ} 0 1 = cc in omega arith
+
 -- the first k records are accepted, and end at `at`
 pub record Upto (file : List ℕ) (origin k at : ℕ) : Type 0 where
   pub whole : walk file origin k ≡ all (bytesIn (walk file origin k))
@@ -107,217 +115,136 @@ pub upto-start : (file : List ℕ) (origin : ℕ) → Upto file origin 0 0
 unfolding walk
 upto-start file origin = record { whole = refl; ends = refl }
 
+-- one step: record k's bytes stand behind the others
+pub record Step (file : List ℕ) (origin k at : ℕ) : Type 0 where
+  pub after : bytesIn (walk file origin (k + 1)) ≡ bytesIn (walk file origin k) ++ bytesOf (answerAt file origin k at)
+  pub upto : Upto file origin (k + 1) (at + length (bytesOf (answerAt file origin k at)))
+
 module _ (file : List ℕ) (origin k at : ℕ) (u : Upto file origin k at) where
-  -- record k's answer, at its offset
-  abbrev pub its : Answer
-  its = answer (insnAt file k) ((origin + at) % 65536)
+  next-is : walk file origin (suc k) ≡ followed k (bytesIn (walk file origin k)) (answerAt file origin k at)
+  next-is = rw (u .ends) (walk-next file origin k (bytesIn (walk file origin k)) (u .whole))
 
-  its-is : its ≡ answer (insnAt file k) (offsetBehind origin (bytesIn (walk file origin k)))
-  its-is = rw (u .ends) refl
+  step-bytes : (cs : List ℕ) → answerAt file origin k at ≡ bytes cs → Step file origin k at
+  step-bytes cs e =
+      let n : walk file origin (k + 1) ≡ all (bytesIn (walk file origin k) ++ cs) = rw (add-one k) (next-is ∙ rw e) in
+      record {
+        after = rw (n, e) refl;
+        upto = record { whole = rw n refl; ends = rw (n, e, length-append (bytesIn (walk file origin k)) cs, ← (u .ends)) refl };
+      }
 
-  next-is : walk file origin (suc k) ≡ followed k (bytesIn (walk file origin k)) its
-  next-is = rw its-is (walk-next file origin k (bytesIn (walk file origin k)) (u .whole))
+  step-stops : (e : EncodeError) → answerAt file origin k at ≡ refused e → (n : ℕ) → k < n → walk file origin n ≡ stopped k e
+  step-stops e q n h = stays file origin (suc k) n k e (next-is ∙ rw q) h
 
-  next-bytes : (cs : List ℕ) → its ≡ bytes cs → walk file origin (suc k) ≡ all (bytesIn (walk file origin k) ++ cs)
-  next-bytes cs e = next-is ∙ rw e
+  -- by what run_at gives
+  module _ (d : Emitted) (hd : d ≡ emitted emptyRun (answerAt file origin k at)) where
+    pub step-none : d .refusal ≡ R.None → Step file origin k at
+    step-none q = go (answerAt file origin k at) refl
+      where
+        go : (a : Answer) → answerAt file origin k at ≡ a → Step file origin k at
+        go (bytes cs) e = step-bytes cs e
+        go (refused x) e = let r : R.Because x ≡ R.None = rw (hd, e) at q in let z : _≡_ {A = ℕ} 0 1 = cc in absurd (omega arith)
 
-  pub upto-bytes : (cs : List ℕ) → its ≡ bytes cs → Upto file origin (k + 1) (at + length cs)
-  upto-bytes cs e =
-      let n = next-bytes cs e in
-      rw (add-one k)
-      (record { whole = rw n refl; ends = rw n (rw (length-append (bytesIn (walk file origin k)) cs, ← (u .ends)) refl) })
+    pub step-refused : (x : EncodeError) → d .refusal ≡ R.Because x → (n : ℕ) → k < n → walk file origin n ≡ stopped k x
+    step-refused x q n h = go (answerAt file origin k at) refl
+      where
+        go : (a : Answer) → answerAt file origin k at ≡ a → walk file origin n ≡ stopped k x
+        go (bytes cs) e = let r : R.None ≡ R.Because x = rw (hd, e) at q in let z : _≡_ {A = ℕ} 0 1 = cc in absurd (omega arith)
+        go (refused y) e = let r : R.Because y ≡ R.Because x = rw (hd, e) at q in let same : y ≡ x = cc in step-stops x (rw same at e) n h
 
-  pub upto-next : (r : Encoded) (m : ℕ) → r ≡ lengthOf its → r ≡ N.Length m → Upto file origin (k + 1) (at + m)
-  upto-next r m q l =
-      let e : lengthOf its ≡ N.Length m = sym q ∙ l in
-      rw (length-given its m e) (upto-bytes (given its) (length-is its m e))
+  -- where the first n are accepted
+  module _ (n : ℕ) (t : isAll (walk file origin n) ≡ true) (h : k < n) where
+    pub step-all : Step file origin k at
+    step-all = go (answerAt file origin k at) refl
+      where
+        go : (a : Answer) → answerAt file origin k at ≡ a → Step file origin k at
+        go (bytes cs) e = step-bytes cs e
+        go (refused x) e = absurd (all-not-stopped t (step-stops x e n h))
 
-  pub upto-short : (r : Encoded) (m : ℕ) → r ≡ lengthOf its → r ≡ N.Length m → m ≤ 7
-  upto-short r m q l = length-short its m (short-by (insnAt file k) ((origin + at) % 65536) (omega arith) its refl) (sym q ∙ l)
+-- where they are, no later record ends earlier
+grows : (file : List ℕ) (origin n j k at : ℕ) → Upto file origin k at → isAll (walk file origin n) ≡ true → n ≡ k + j → at ≤ length (bytesIn (walk file origin n))
+grows file origin n zero k at u t e = let z : n ≡ k = omega arith in rw z (omega (arith, u .ends))
+grows file origin n (suc j) k at u t e =
+    let s = step-all file origin k at u n t (omega arith) in
+    let g = grows file origin n j (k + 1) (at + length (bytesOf (answerAt file origin k at))) (s .upto) t (omega arith) in
+    omega arith
 
-  pub upto-stop : (r : Encoded) (e : EncodeError) (n : ℕ) → r ≡ lengthOf its → r ≡ N.Refused e → k < n → walk file origin n ≡ stopped k e
-  upto-stop r e n q l h = stays file origin (suc k) n k e (next-is ∙ rw (refused-is its e (sym q ∙ l))) h
+pub step-in : (file : List ℕ) (origin k at : ℕ) → Upto file origin k at → (n : ℕ) → isAll (walk file origin n) ≡ true → k < n
+    → at + length (bytesOf (answerAt file origin k at)) ≤ length (bytesIn (walk file origin n))
+step-in file origin k at u n t h = grows file origin n (n - (k + 1)) (k + 1) _ (step-all file origin k at u n t h .upto) t (omega arith)
 
--- ---- a code that is not known
-pub unknown-is : (file : List ℕ) (k : ℕ) (r t : Bool) → r ≡ codesKnown (recordAt file k) → r ≡ t → isUnknown file k ≡ isnt t
-unfolding isUnknown
-unknown-is file k r t q e = rw (← q, e) refl
+-- ---- records have at most seven bytes each
+within-by : (k : ℕ) (bs : List ℕ) → length bs ≤ 7 * k → (a : Answer) → Short a → length (bytesIn (followed k bs a)) ≤ 7 * suc k
+within-by k bs h (bytes cs) q = rw (length-append bs cs) (omega arith)
+within-by k bs h (refused e) q = omega arith
 
--- ---- where all are accepted
-all-not-stopped : {k : ℕ} {e : EncodeError} {w : Walk} → isAll w ≡ true → w ≡ stopped k e → ⊥
-all-not-stopped t q = let f : false ≡ true = rw q at t in let z : _≡_ {A = ℕ} 0 1 = cc in omega arith
+within-next : (file : List ℕ) (origin k : ℕ) (w : Walk) → length (bytesIn w) ≤ 7 * k → length (bytesIn (further file origin k w)) ≤ 7 * suc k
+within-next file origin k (all bs) h = within-by k bs h (answerAt file origin k (length bs)) (answer-at-short file origin k (length bs))
+within-next file origin k (stopped i e) h = omega arith
 
--- one record fewer: it is accepted too, and ends no later
-record Fewer (file : List ℕ) (origin k : ℕ) : Type 0 where
-  fewer : isAll (walk file origin k) ≡ true
-  before : length (bytesIn (walk file origin k)) ≤ length (bytesIn (walk file origin (suc k)))
+pub within-seven : (file : List ℕ) (origin n : ℕ) → length (bytesIn (walk file origin n)) ≤ 7 * n
+unfolding walk
+within-seven file origin zero = omega arith
+within-seven file origin (suc n) = within-next file origin n (walk file origin n) (within-seven file origin n)
 
-fewer-bytes : (file : List ℕ) (origin k : ℕ) (bs : List ℕ) → walk file origin k ≡ all bs → isAll (walk file origin (suc k)) ≡ true
-    → (a : Answer) → answer (insnAt file k) (offsetBehind origin bs) ≡ a → Fewer file origin k
-fewer-bytes file origin k bs e t (bytes cs) q =
-    let n : walk file origin (suc k) ≡ all (bs ++ cs) = walk-next file origin k bs e ∙ rw q in
-    record { fewer = rw e refl; before = rw (e, n, length-append bs cs) (omega arith) }
-fewer-bytes file origin k bs e t (refused x) q =
-    let n : walk file origin (suc k) ≡ stopped k x = walk-next file origin k bs e ∙ rw q in
-    absurd (all-not-stopped t n)
+-- ---- P stands at the front of a slice that was s₀
+pub record Front (P s₀ s : List ℕ) : Type 0 where
+  pub is : s ≡ P ++ drop (length P) s₀
+  pub same : length s ≡ length s₀
 
-fewer-by : (file : List ℕ) (origin k : ℕ) (w : Walk) → walk file origin k ≡ w → isAll (walk file origin (suc k)) ≡ true → Fewer file origin k
-fewer-by file origin k (all bs) e t = fewer-bytes file origin k bs e t (answer (insnAt file k) (offsetBehind origin bs)) refl
-fewer-by file origin k (stopped i x) e t = absurd (all-not-stopped t (walk-on file origin k i x e))
+pub front-start : (s : List ℕ) → Front [] s s
+front-start s = record { is = refl; same = refl }
 
-end-le : (file : List ℕ) (origin n k : ℕ) → isAll (walk file origin n) ≡ true → k ≤ n
-    → length (bytesIn (walk file origin k)) ≤ length (bytesIn (walk file origin n))
-end-le file origin zero k t h = let e : k ≡ 0 = omega arith in rw e (omega arith)
-end-le file origin (suc n) k t h =
-    let f = fewer-by file origin n (walk file origin n) refl t in
-    ⊎-elim (λ e. rw e (omega arith))
-    (λ l. let g = end-le file origin n k (f .fewer) (le-of-suc-le-suc l) in let b = f .before in omega arith)
-    (eq-or-lt-of-le h)
+pub front-is : (P s₀ s : List ℕ) → length P ≤ length s₀ → s ≡ P ++ drop (length P) s₀ → Front P s₀ s
+front-is P s₀ s h e = record { is = e; same = rw (e, length-append P, length-drop (length P) s₀) (omega arith) }
 
--- the part of the image from `at` on, as it is lent
+-- the part from `at` on, as it is lent
 abbrev pub lent : List ℕ → ℕ → List ℕ
-lent image at = take (length image - at) (drop at image)
+lent s at = take (length s - at) (drop at s)
 
-pub lent-length : (image : List ℕ) (at : ℕ) → length (lent image at) ≡ length image - at
-lent-length image at = length-take-le (length image - at) (drop at image) (rw (length-drop at image) (omega arith))
+pub lent-length : (s : List ℕ) (at : ℕ) → length (lent s at) ≡ length s - at
+lent-length s at = length-take-le (length s - at) (drop at s) (rw (length-drop at s) (omega arith))
 
--- what a writer leaves there, seen in the whole image
-pub written : (P B s image : List ℕ) (m : ℕ) → image ≡ P ++ drop (length P) s → length B ≡ m
-    → putMid (length P) (length image - length P) image (B ++ drop m (lent image (length P))) ≡ (P ++ B) ++ drop (length (P ++ B)) s
-written P B s image m e l =
-    let before : take (length P) image ≡ P = rw e (take-append-seam P (drop (length P) s)) in
-    let after : drop (length P) image ≡ drop (length P) s = rw e (drop-append-seam P (drop (length P) s)) in
-    let whole : take (length image - length P) (drop (length P) image) ≡ drop (length P) image = take-all (length image - length P) (drop (length P) image) (rw (length-drop (length P) image) (omega arith)) in
-    let none : drop (length image - length P) (drop (length P) image) ≡ [] = drop-of-length-le (drop (length P) image) {i = length image - length P} (rw (length-drop (length P) image) (omega arith)) in
-    rw (whole, none, after, before, ← l) (simp (append-nil, append-assoc, drop-drop, length-append))
+-- what a writer leaves there, seen in the whole slice
+written : (P B s₀ s : List ℕ) → s ≡ P ++ drop (length P) s₀
+    → putMid (length P) (length s - length P) s (B ++ drop (length B) (lent s (length P))) ≡ (P ++ B) ++ drop (length (P ++ B)) s₀
+written P B s₀ s e =
+    let before : take (length P) s ≡ P = rw e (take-append-seam P (drop (length P) s₀)) in
+    let after : drop (length P) s ≡ drop (length P) s₀ = rw e (drop-append-seam P (drop (length P) s₀)) in
+    let whole : take (length s - length P) (drop (length P) s) ≡ drop (length P) s = take-all (length s - length P) (drop (length P) s) (rw (length-drop (length P) s) (omega arith)) in
+    let none : drop (length s - length P) (drop (length P) s) ≡ [] = drop-of-length-le (drop (length P) s) {i = length s - length P} (rw (length-drop (length P) s) (omega arith)) in
+    rw (whole, none, after, before) (simp (append-nil, append-assoc, drop-drop, length-append))
 
--- one turn of the writing loop
-pub record Turn (file : List ℕ) (origin k at m : ℕ) (image₀ image last : List ℕ) : Type 0 where
-  pub room-left : at + m ≤ length image₀
-  pub upto : Upto file origin (k + 1) (at + m)
-  pub image-is : putMid at (length image - at) image last ≡ bytesIn (walk file origin (k + 1)) ++ drop (at + m) image₀
-  pub same-length : length (putMid at (length image - at) image last) ≡ length image₀
+pub front-next : (P B s₀ s last : List ℕ) (at : ℕ) → Front P s₀ s → at ≡ length P → at + length B ≤ length s₀ → last ≡ B ++ drop (length B) (lent s at)
+    → Front (P ++ B) s₀ (putMid at (length s - at) s last)
+front-next P B s₀ s last at f e h l =
+    let w : putMid at (length s - at) s last ≡ (P ++ B) ++ drop (length (P ++ B)) s₀ = rw (l, e) (written P B s₀ s (f .is)) in
+    front-is (P ++ B) s₀ (putMid at (length s - at) s last) (rw (length-append P B) (omega arith)) w
 
-module _ (file : List ℕ) (origin k at : ℕ) (u : Upto file origin k at) (n : ℕ) (t : isAll (walk file origin n) ≡ true) (h : k < n) where
-  accepted-by : (a : Answer) → its file origin k at u ≡ a → a ≡ bytes (given a)
-  accepted-by (bytes bs) q = refl
-  accepted-by (refused e) q = absurd (all-not-stopped t (stays file origin (suc k) n k e (next-is file origin k at u ∙ rw q) h))
+-- ---- an end behind the image's
+module _ (file : List ℕ) (origin size k m : ℕ) (e : m ≡ length (bytesIn (walk file origin (k + 1)))) where
+  pub over-yes : size < m → isOver file origin size k ≡ true
+  unfolding isOver
+  over-yes z = lt-ltb size (length (bytesIn (walk file origin (suc k)))) (rw (← (add-one k), ← e) z)
 
-  pub accepted : its file origin k at u ≡ bytes (given (its file origin k at u))
-  accepted = accepted-by (its file origin k at u) refl
-
-  pub fits-in : at + length (given (its file origin k at u)) ≤ length (bytesIn (walk file origin n))
-  fits-in =
-      let e = upto-bytes file origin k at u (given (its file origin k at u)) accepted .ends in
-      let l = end-le file origin n (k + 1) t (omega arith) in
-      omega arith
-
-  pub at-in : at ≤ length (bytesIn (walk file origin n))
-  at-in = let f = fits-in in omega arith
-
-  -- the refusal that cannot be
-  pub not-refused : (r : Encoded) → r ≡ lengthOf (its file origin k at u) → (e : EncodeError) → r ≡ N.Refused e → ⊥
-  not-refused r q e l = all-not-stopped t (upto-stop file origin k at u r e n q l h)
-
-  module _ (size m : ℕ) (r : Encoded) (q : r ≡ lengthOf (its file origin k at u)) (l : r ≡ N.Length m) where
-    end-is : length (bytesIn (walk file origin (suc k))) ≡ at + m
-    end-is = rw (← (add-one k)) (sym (upto-next file origin k at u r m q l .ends))
-
-    pub over-yes : size < at + m → isOver file origin size k ≡ true
-    unfolding isOver
-    over-yes z = lt-ltb size (length (bytesIn (walk file origin (suc k)))) (rw end-is z)
-
-    pub over-no : at + m ≤ size → isOver file origin size k ≡ false
-    unfolding isOver
-    over-no z = le-ltb size (length (bytesIn (walk file origin (suc k)))) (rw end-is z)
-
-  module _ (image₀ image : List ℕ) (len : length image ≡ length image₀) (room : length (bytesIn (walk file origin n)) ≤ length image₀)
-      (is : image ≡ bytesIn (walk file origin k) ++ drop at image₀) (span : Span) (r : Encoded)
-      (hr : r ≡ outcome (its file origin k at u) span (lent image at)) where
-    abbrev cs : List ℕ
-    cs = given (its file origin k at u)
-
-    fits : leb (length cs) (length (lent image at)) ≡ true
-    fits = le-leb (length cs) (length (lent image at)) (let e = lent-length image at in let f = fits-in in omega arith)
-
-    is-length : r ≡ N.Length (length cs)
-    is-length = hr ∙ rw (accepted, fits)
-
-    pub never : (e : EncodeError) → r ≡ N.Refused e → ⊥
-    never e x = let b = is-length in let z : _≡_ {A = ℕ} 0 1 = cc in omega arith
-
-    module _ (m : ℕ) (hm : r ≡ N.Length m) (last : List ℕ) (hl : last ≡ sliceAfter (its file origin k at u) (lent image at)) where
-      m-is : m ≡ length cs
-      m-is = let b = is-length in cc
-
-      room-left-is : at + m ≤ length image₀
-      room-left-is = rw m-is (let f = fits-in in omega arith)
-
-      upto-is : Upto file origin (k + 1) (at + m)
-      upto-is = rw m-is (upto-bytes file origin k at u cs accepted)
-
-      after-is : bytesIn (walk file origin (k + 1)) ≡ bytesIn (walk file origin k) ++ cs
-      after-is = rw (add-one k, next-bytes file origin k at u cs accepted) refl
-
-      whole-is : putMid at (length image - at) image last ≡ bytesIn (walk file origin (k + 1)) ++ drop (at + m) image₀
-      whole-is =
-          let e : last ≡ cs ++ drop (length cs) (lent image at) = hl ∙ rw (accepted, fits) in
-          let P = bytesIn (walk file origin k) in
-          let w = written P cs image₀ image (length cs) (rw (← (u .ends)) is) refl in
-          rw (e, after-is, m-is) (rw (length-append P cs, ← (u .ends)) at w)
-
-      pub turn : Turn file origin k at m image₀ image last
-      turn =
-          let f = room-left-is in
-          let e = upto-is .ends in
-          record {
-            room-left = f;
-            upto = upto-is;
-            image-is = whole-is;
-            same-length = rw (whole-is, length-append (bytesIn (walk file origin (k + 1))), length-drop (at + m) image₀) (omega arith);
-          }
+  pub over-no : m ≤ size → isOver file origin size k ≡ false
+  unfolding isOver
+  over-no z = le-ltb size (length (bytesIn (walk file origin (suc k)))) (rw (← (add-one k), ← e) z)
 
 -- ---- the first that does not fit is one of the records
-from-none-at : (b : Bool) (f : ℕ → Bool) (k i : ℕ) → f i ≡ b → i < pick b i (firstFrom f k (suc i))
-    → (f i ≡ false) × (pick b i (firstFrom f k (suc i)) ≡ firstFrom f k (suc i))
-from-none-at true f k i e h = absurd (omega arith)
-from-none-at false f k i e h = (e, refl)
-
--- where none says yes, the last does not
-from-none : (f : ℕ → Bool) (k i j : ℕ) → j ≡ i + k → j < firstFrom f (suc k) i → f j ≡ false
-from-none f zero i j e h = let d : j ≡ i = omega arith in rw d (from-none-at (f i) f 0 i refl (omega arith) .0)
-from-none f (suc k) i j e h =
-    let l = from-none-at (f i) f (suc k) i refl (omega arith) .1 in
-    from-none f k (suc i) j (omega arith) (rw l at h)
-
-all-fit : (file : List ℕ) (origin size n : ℕ) → n ≤ firstOver file origin size n → length (bytesIn (walk file origin n)) ≤ size
-unfolding isOver walk
-all-fit file origin size zero h = omega arith
-all-fit file origin size (suc n) h =
-    ltb-false size (length (bytesIn (walk file origin (suc n)))) (from-none (isOver file origin size) n 0 n (omega arith) h)
+from-le : (f : ℕ → Bool) (k i j : ℕ) → i ≤ j → j < i + k → f j ≡ true → firstFrom f k i ≤ j
+from-le f zero i j a b t = absurd (omega arith)
+from-le f (suc k) i j a b t = go (f i) refl (λ h. from-le f k (suc i) j h (omega arith) t)
+  where
+    go : (c : Bool) → f i ≡ c → (suc i ≤ j → firstFrom f k (suc i) ≤ j) → pick c i (firstFrom f k (suc i)) ≤ j
+    go true e r = a
+    go false e r = ⊎-elim (λ q. let w : f i ≡ true = rw q t in let z : _≡_ {A = ℕ} 0 1 = cc in absurd (omega arith)) r (eq-or-lt-of-le a)
 
 pub over-below : (file : List ℕ) (origin size n : ℕ) → size < length (bytesIn (walk file origin n)) → firstOver file origin size n < n
-over-below file origin size n h = go (ltb (firstOver file origin size n) n) refl
-  where
-    go : (b : Bool) → ltb (firstOver file origin size n) n ≡ b → firstOver file origin size n < n
-    go true e = ltb-true (firstOver file origin size n) n e
-    go false e = let l = all-fit file origin size n (ltb-false (firstOver file origin size n) n e) in absurd (omega arith)
-
--- ---- the loader's two passes
-module _ (w : Walk) where
-  pub measured-all : (m : ℕ) → measured w ≡ M.Length m → (w ≡ all (bytesIn w)) × (m ≡ length (bytesIn w)) × (isAll w ≡ true)
-  measured-all = go w
-    where
-      go : (v : Walk) (m : ℕ) → measured v ≡ M.Length m → (v ≡ all (bytesIn v)) × (m ≡ length (bytesIn v)) × (isAll v ≡ true)
-      go (all bs) m q = (refl, cc, refl)
-      go (stopped k e) m q = let z : _≡_ {A = ℕ} 0 1 = cc in absurd (omega arith)
-
-  pub measured-stopped : (k : ℕ) (e : EncodeError) → measured w ≡ M.Refused k e → w ≡ stopped k e
-  measured-stopped = go w
-    where
-      go : (v : Walk) (k : ℕ) (e : EncodeError) → measured v ≡ M.Refused k e → v ≡ stopped k e
-      go (all bs) k e q = let z : _≡_ {A = ℕ} 0 1 = cc in absurd (omega arith)
-      go (stopped i x) k e q = cc
+unfolding isOver walk
+over-below file origin size zero h = absurd (omega arith)
+over-below file origin size (suc n) h =
+    let l = from-le (isOver file origin size) (suc n) 0 n (omega arith) (omega arith) (lt-ltb size (length (bytesIn (walk file origin (suc n)))) h) in
+    omega arith
 
 -- ---- an opened show has the length of its records
 pub record Exact (file : List ℕ) (h : Header) : Type 0 where
@@ -344,3 +271,35 @@ opened-exact file h q =
     go true true false d e hd he q = absurd (shut q)
     go true false c d e hd he q = absurd (shut q)
     go false b c d e hd he q = absurd (shut q)
+
+-- ---- an accepted show: the length of its records is asked, and each is accepted
+pub record Accepted (file : List ℕ) (h : Header) (n : ℕ) : Type 0 where
+  pub exact : Exact file h
+  pub all-in : isAll (walk file (h .origin) (h .count)) ≡ true
+  pub size : n ≡ length (bytesIn (walk file (h .origin) (h .count)))
+
+refused-image : {x : LoadError} {h : Header} {n : ℕ} → L.Refused x ≡ L.Image h n → ⊥
+refused-image e = let z : _≡_ {A = ℕ} 0 1 = cc in omega arith
+
+module _ (file : List ℕ) (h : Header) (n : ℕ) where
+  measured-image : (g : Header) (w : Walk) → measured g w ≡ L.Image h n → (g ≡ h) × (isAll w ≡ true) × (n ≡ length (bytesIn w))
+  measured-image g (all bs) q = ((cc), refl, (cc))
+  measured-image g (stopped k e) q = absurd (refused-image q)
+
+  show-image : (g : Header) → opened file ≡ O.Show g → showAccepted file g ≡ L.Image h n → Accepted file h n
+  unfolding showAccepted
+  show-image g e q = go (ltb (firstUnknown file (g .count)) (g .count)) q
+    where
+      go : (b : Bool) → pick b (L.Refused (LE.UnknownCode (firstUnknown file (g .count)))) (measured g (walk file (g .origin) (g .count))) ≡ L.Image h n
+          → Accepted file h n
+      go true q = absurd (refused-image q)
+      go false q =
+          let (same, t, size) = measured-image g (walk file (g .origin) (g .count)) q in
+          record { exact = opened-exact file h (rw same at e); all-in = rw same at t; size = rw same at size }
+
+  pub accepted-image : accepted file ≡ L.Image h n → Accepted file h n
+  accepted-image q = go (opened file) refl q
+    where
+      go : (o : Opened) → opened file ≡ o → acceptedBy file o ≡ L.Image h n → Accepted file h n
+      go (O.Show g) e q = show-image g e q
+      go (O.Refused x) e q = absurd (refused-image q)

@@ -1,3 +1,2 @@
 pub mod Show
 pub mod Loading
-pub mod Steps

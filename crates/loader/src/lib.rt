@@ -2,14 +2,17 @@
 ghost use mathlib.Core.Path.{_≡_};
 ghost use mathlib.Core.Bool.{true};
 ghost use mathlib.Core.List.{_++_};
-ghost use Prim.Native.Nat.{_+_, _%_, _<_, _≤_};
+ghost use Prim.Native.Nat.{_<_, _≤_};
 ghost use lib.ListN.{length, drop};
 ghost use Rattle.mrc_compiler.specs.Refusals.{reportOf};
+ghost use Rattle.emitter.specs.Run.{emptyRun};
+ghost use Rattle.emit.specs.Emit.{emitted};
 ghost use Rattle.loader.specs.Show.{u16At, hasMark, headed, opened, recordPlace, insnAt, mostRecords};
-ghost use Rattle.loader.specs.Loading.{numberOf, walk, bytesIn, firstUnknown, firstOver, tooShort, showLoaded, loaded, placed, imageAfter};
-ghost use Rattle.loader.specs.Steps.{isAll, measured};
+ghost use Rattle.loader.specs.Loading.{numberOf, offsetBehind, answerAt, walk, bytesOf, bytesIn, isAll, firstUnknown, firstOver, measured, accepted, tooShort, loaded, imageAfter};
+use emit::Emitted;
+use emit::Refusal;
+use encoder::write_run;
 use mrc_compiler::encoder::EncodeError;
-use mrc_compiler::encoder::Encoded;
 use mrc_compiler::encoder::InstructionData;
 
 pub struct Header {
@@ -78,12 +81,6 @@ pub enum Opened {
     Refused(LoadError),
 }
 
-// The length of some records' bytes, or the first that is refused.
-pub enum Measured {
-    Length(usize),
-    Refused(usize, EncodeError),
-}
-
 const HEADER_LENGTH: usize = 9;
 
 const MOST_RECORDS: u16 = 1000;
@@ -134,7 +131,7 @@ fn header_of(file: &[u8]) -> Opened
 }
 
 // The questions about the file itself.
-pub fn open(file: &[u8]) -> Opened
+fn open(file: &[u8]) -> Opened
     ensures { λ r. ⌜ r ≡ opened (now (file .entry)) ⌝ }
 {
     if has_mark(file) {
@@ -153,7 +150,7 @@ fn place_of(k: usize) -> usize
 }
 
 // Record k of n.
-pub fn insn_at(file: &[u8], n: usize, k: usize) -> InstructionData
+fn insn_at(file: &[u8], n: usize, k: usize) -> InstructionData
     requires { ⌜ (length (now file) ≡ recordPlace n) × (n ≤ mostRecords) × (k < n) ⌝ }
     ensures { λ r. ⌜ r ≡ insnAt (now (file .entry)) k ⌝ }
 {
@@ -164,7 +161,7 @@ pub fn insn_at(file: &[u8], n: usize, k: usize) -> InstructionData
 }
 
 // The first record with a code that is not known, or n.
-pub fn first_unknown(file: &[u8], n: usize) -> usize
+fn first_unknown(file: &[u8], n: usize) -> usize
     requires { ⌜ (length (now file) ≡ recordPlace n) × (n ≤ mostRecords) ⌝ }
     ensures { λ r. ⌜ r ≡ firstUnknown (now (file .entry)) n ⌝ }
 {
@@ -185,33 +182,63 @@ pub fn first_unknown(file: &[u8], n: usize) -> usize
 
 // The offset of what stands behind so many bytes: it wraps at 65,536.
 pub fn offset_behind(origin: u16, at: usize) -> u16
-    ensures { λ r. ⌜ r ≡ (origin + at) % 65536 ⌝ }
+    ensures { λ r. ⌜ r ≡ offsetBehind origin at ⌝ }
 {
     std::num::wrapping_add_u16(origin, (at % 65536) as u16)
 }
 
-// Each record in order: the length of all, or the first that is refused.
-pub fn measure(file: &[u8], n: usize, origin: u16) -> Measured
-    requires { ⌜ (length (now file) ≡ recordPlace n) × (n ≤ mostRecords) ⌝ }
-    ensures { λ r. ⌜ r ≡ measured (walk (now (file .entry)) origin n) ⌝ }
+// One step: record k of n, so many bytes behind the origin, as the run of its bytes or its refusal.
+pub fn run_at(file: &[u8], n: usize, origin: u16, k: usize, at: usize) -> Emitted
+    requires { ⌜ (length (now file) ≡ recordPlace n) × (n ≤ mostRecords) × (k < n) ⌝ }
+    ensures { λ r. ⌜ r ≡ emitted emptyRun (answerAt (now (file .entry)) origin k at) ⌝ }
 {
+    let insn = insn_at(file, n, k);
+    let offset = offset_behind(origin, at);
+    encoder::run_of(insn, offset)
+}
+
+// Each record in order: the header with the length of all, or the first that is refused.
+fn measure(file: &[u8], header: Header) -> Loaded
+    requires { ⌜ (length (now file) ≡ recordPlace (header .count)) × (header .count ≤ mostRecords) ⌝ }
+    ensures { λ r. ⌜ r ≡ measured header (walk (now (file .entry)) (header .origin) (header .count)) ⌝ }
+{
+    let n = header.count as usize;
+    let origin = header.origin;
     let mut k = 0;
     let mut at = 0;
     while k < n {
-        let insn = insn_at(file, n, k);
-        let offset = offset_behind(origin, at);
-        let length = encoder::encoded_length(insn, offset);
-        match length {
-            Encoded::Refused(e) => {
-                return Measured::Refused(k, e);
+        let step = run_at(file, n, origin, k, at);
+        let refusal = step.refusal;
+        let run = step.run;
+        match refusal {
+            Refusal::Because(e) => {
+                return Loaded::Refused(LoadError::Record(k, e));
             },
-            Encoded::Length(m) => {
-                at = at + m;
+            Refusal::None => {
+                at = at + run.len;
             },
         }
         k += 1;
     }
-    Measured::Length(at)
+    Loaded::Image(header, at)
+}
+
+// The questions about the file, then its records: the header and the length of the image, or the refusal.
+pub fn accept(file: &[u8]) -> Loaded
+    ensures { λ r. ⌜ r ≡ accepted (now (file .entry)) ⌝ }
+{
+    let show = open(file);
+    match show {
+        Opened::Refused(e) => Loaded::Refused(e),
+        Opened::Show(header) => {
+            let n = header.count as usize;
+            let unknown = first_unknown(file, n);
+            if unknown < n {
+                return Loaded::Refused(LoadError::UnknownCode(unknown));
+            }
+            measure(file, header)
+        },
+    }
 }
 
 // The first record that ends behind so many bytes, or n.
@@ -222,13 +249,9 @@ fn first_over(file: &[u8], n: usize, origin: u16, size: usize) -> usize
     let mut k = 0;
     let mut at = 0;
     while k < n {
-        let insn = insn_at(file, n, k);
-        let offset = offset_behind(origin, at);
-        let length = encoder::encoded_length(insn, offset);
-        // All are accepted: there is no other case.
-        let Encoded::Length(m) = length else {
-            return k;
-        };
+        let step = run_at(file, n, origin, k, at);
+        let run = step.run;
+        let m = run.len;
         if size - at < m {
             return k;
         }
@@ -236,6 +259,19 @@ fn first_over(file: &[u8], n: usize, origin: u16, size: usize) -> usize
         k += 1;
     }
     n
+}
+
+// Writes record k, so many bytes behind the origin, to the front of out, and answers its length.
+fn write_record(file: &[u8], n: usize, origin: u16, k: usize, at: usize, out: &mut [u8]) -> usize
+    requires { ⌜ (length (now file) ≡ recordPlace n) × (n ≤ mostRecords) × (k < n) × (length (bytesOf (answerAt (now file) origin k at)) ≤ length (now out)) ⌝ }
+    ensures { λ r. ⌜ r ≡ length (bytesOf (answerAt (now (file .entry)) origin k at)) ⌝ }
+    ensures { λ _. ⌜ now (out .exit) ≡ bytesOf (answerAt (now (file .entry)) origin k at) ++ drop (length (bytesOf (answerAt (now (file .entry)) origin k at))) (now (out .entry)) ⌝ }
+{
+    let step = run_at(file, n, origin, k, at);
+    let run = step.run;
+    let m = run.len;
+    write_run(run, out);
+    m
 }
 
 // Each record into the part of the image that starts where the last one ended.
@@ -246,14 +282,8 @@ fn write_all(file: &[u8], n: usize, origin: u16, image: &mut [u8])
     let mut k = 0;
     let mut at = 0;
     while k < n {
-        let insn = insn_at(file, n, k);
-        let offset = offset_behind(origin, at);
         let part = &mut image[at..];
-        let written = encoder::encode(insn, offset, part);
-        // All are accepted and fit: there is no other case.
-        let Encoded::Length(m) = written else {
-            return;
-        };
+        let m = write_record(file, n, origin, k, at, part);
         at = at + m;
         k += 1;
     }
@@ -269,22 +299,17 @@ fn too_short(file: &[u8], n: usize, k: usize) -> Loaded
     Loaded::Refused(LoadError::Record(k, EncodeError::SliceTooShort(span)))
 }
 
-// The questions about the records, then the image.
-fn load_show(file: &[u8], header: Header, image: &mut [u8]) -> Loaded
-    requires { ⌜ (length (now file) ≡ recordPlace (header .count)) × (header .count ≤ mostRecords) ⌝ }
-    ensures { λ r. ⌜ r ≡ showLoaded (now (file .entry)) header (length (now (image .entry))) ⌝ }
-    ensures { λ _. ⌜ now (image .exit) ≡ placed (now (file .entry)) (now (image .entry)) (showLoaded (now (file .entry)) header (length (now (image .entry)))) ⌝ }
+// Loads a show file: the image of its records at the front of the lent slice, or the refusal, which leaves the slice as it was.
+pub fn load(file: &[u8], image: &mut [u8]) -> Loaded
+    ensures { λ r. ⌜ r ≡ loaded (now (file .entry)) (length (now (image .entry))) ⌝ }
+    ensures { λ _. ⌜ now (image .exit) ≡ imageAfter (now (file .entry)) (now (image .entry)) ⌝ }
 {
-    let n = header.count as usize;
-    let origin = header.origin;
-    let unknown = first_unknown(file, n);
-    if unknown < n {
-        return Loaded::Refused(LoadError::UnknownCode(unknown));
-    }
-    let size = measure(file, n, origin);
-    match size {
-        Measured::Refused(k, e) => Loaded::Refused(LoadError::Record(k, e)),
-        Measured::Length(m) => {
+    let show = accept(file);
+    match show {
+        Loaded::Refused(e) => Loaded::Refused(e),
+        Loaded::Image(header, m) => {
+            let n = header.count as usize;
+            let origin = header.origin;
             let room = image.len();
             if m <= room {
                 write_all(file, n, origin, image);
@@ -294,17 +319,5 @@ fn load_show(file: &[u8], header: Header, image: &mut [u8]) -> Loaded
                 too_short(file, n, k)
             }
         },
-    }
-}
-
-// Loads a show file: the image of its records at the front of the lent slice, or the refusal, which leaves the slice as it was.
-pub fn load(file: &[u8], image: &mut [u8]) -> Loaded
-    ensures { λ r. ⌜ r ≡ loaded (now (file .entry)) (length (now (image .entry))) ⌝ }
-    ensures { λ _. ⌜ now (image .exit) ≡ imageAfter (now (file .entry)) (now (image .entry)) ⌝ }
-{
-    let show = open(file);
-    match show {
-        Opened::Refused(e) => Loaded::Refused(e),
-        Opened::Show(header) => load_show(file, header, image),
     }
 }

@@ -1,10 +1,15 @@
--- The number of an operation: its place, from 0, in 002 (document 01, 'Operation').
+-- The operations and their numbers: the place, from 0, in 002 (document 01, 'Operation').
 -- Definitions only.
 use Prim.Native.Nat.{ℕ}
 use mathlib.Core.Bool.{Bool}
-use lib.Dec.{eqb}
+use mathlib.Core.List.{List, [], _∷_}
+use lib.Dec.{eqb, ltb}
+use lib.ListN.{length, getD}
 use Rattle.mrc_compiler.specs.declared.operations.Operation.{Operation}
 use Rattle.mrc_compiler.specs.declared.operations.Operation.the-variants as Op
+use Rattle.mrc_compiler.specs.declared.operations.OptionOperation.{OptionOperation}
+use Rattle.mrc_compiler.specs.declared.operations.OptionOperation.the-variants as O
+use Rattle.mrc_compiler.specs.Choose.{pick}
 
 unfoldable pub numberOf : Operation → ℕ
 numberOf Op.MOV = 0
@@ -110,3 +115,21 @@ numberOf Op.SALC = 98
 -- are two operations the same?
 abbrev pub sameOperation : Operation → Operation → Bool
 sameOperation a b = eqb (numberOf a) (numberOf b)
+
+-- in their order; proofs/Numbers shows that each stands at its number
+unfoldable pub operations : List Operation
+operations =
+    Op.MOV ∷ Op.PUSH ∷ Op.POP ∷ Op.XCHG ∷ Op.IN ∷ Op.OUT ∷ Op.XLATB ∷ Op.LEA ∷ Op.LDS ∷ Op.LES
+    ∷ Op.LAHF ∷ Op.SAHF ∷ Op.PUSHF ∷ Op.POPF ∷ Op.ADD ∷ Op.ADC ∷ Op.INC ∷ Op.AAA ∷ Op.DAA ∷ Op.SUB
+    ∷ Op.SBB ∷ Op.DEC ∷ Op.NEG ∷ Op.CMP ∷ Op.AAS ∷ Op.DAS ∷ Op.MUL ∷ Op.IMUL ∷ Op.AAM ∷ Op.DIV
+    ∷ Op.IDIV ∷ Op.AAD ∷ Op.CBW ∷ Op.CWD ∷ Op.NOT ∷ Op.SHL ∷ Op.SHR ∷ Op.SAR ∷ Op.ROL ∷ Op.ROR
+    ∷ Op.RCL ∷ Op.RCR ∷ Op.AND ∷ Op.TEST ∷ Op.OR ∷ Op.XOR ∷ Op.REP ∷ Op.REPNE ∷ Op.MOVSB ∷ Op.MOVSW
+    ∷ Op.CMPSB ∷ Op.CMPSW ∷ Op.SCASB ∷ Op.SCASW ∷ Op.LODSB ∷ Op.LODSW ∷ Op.STOSB ∷ Op.STOSW ∷ Op.CALL ∷ Op.JMP
+    ∷ Op.RET ∷ Op.JE ∷ Op.JL ∷ Op.JLE ∷ Op.JB ∷ Op.JBE ∷ Op.JP ∷ Op.JO ∷ Op.JS ∷ Op.JNE
+    ∷ Op.JNL ∷ Op.JNLE ∷ Op.JNB ∷ Op.JNBE ∷ Op.JNP ∷ Op.JNO ∷ Op.JNS ∷ Op.LOOP ∷ Op.LOOPZ ∷ Op.LOOPNZ
+    ∷ Op.JCXZ ∷ Op.INT ∷ Op.INT1 ∷ Op.INT3 ∷ Op.INTO ∷ Op.IRET ∷ Op.CLC ∷ Op.CMC ∷ Op.STC ∷ Op.CLD
+    ∷ Op.STD ∷ Op.CLI ∷ Op.STI ∷ Op.HLT ∷ Op.WAIT ∷ Op.ESC ∷ Op.LOCK ∷ Op.NOP ∷ Op.SALC ∷ []
+
+-- the operation of a number
+abbrev pub operationNumbered : ℕ → OptionOperation
+operationNumbered n = pick (ltb n (length operations)) (O.Some (getD operations n Op.MOV)) O.None

@@ -1,12 +1,14 @@
--- What the answer of common_operand_size says of questions 3 and 4.
+-- What the answer of common_operand_size says of questions 3 and 4, and of a single operand's size; small laws of tests.
 -- Assumes nothing.
 use mathlib.Core.Path.{_≡_, refl}
 use mathlib.Core.Bool.{Bool, true, false}
-use Rattle.mrc_compiler.specs.declared.encoder.OperandSize.{OperandSize}
-use Rattle.mrc_compiler.specs.declared.encoder.OperandSize.the-variants as S
-use Rattle.mrc_compiler.specs.Builders.{isSpecified}
+use Rattle.mrc_compiler.specs.declared.ast.DataSize.{DataSize}
+use Rattle.mrc_compiler.specs.declared.ast.DataSize.the-variants as Z
 use Rattle.mrc_compiler.specs.declared.encoder.OperandKind.{OperandKind}
 use Rattle.mrc_compiler.specs.declared.encoder.OperandKind.the-variants as K
+use Rattle.mrc_compiler.specs.declared.encoder.OperandSize.{OperandSize}
+use Rattle.mrc_compiler.specs.declared.encoder.OperandSize.the-variants as S
+use Rattle.mrc_compiler.specs.Builders.{isSpecified, sizeFromSome}
 use Rattle.mrc_compiler.specs.Choose.{both, either, byKind}
 use Rattle.answers.specs.Records.{statedOf}
 use Rattle.answers.specs.Questions.{agree}
@@ -19,8 +21,7 @@ abbrev pub Settled : OperandSize → OperandSize → OperandSize → Type 0
 Settled w s t = (either (isSpecified s) (isSpecified t) ≡ true) × (agree s t ≡ true) × (statedOf s t ≡ w)
 
 abbrev pub Told : Common → OperandSize → OperandSize → Type 0
-Told M.Byte s t = Settled S.Byte s t
-Told M.Word s t = Settled S.Word s t
+Told (M.Is z) s t = Settled (sizeFromSome z) s t
 Told M.NotSpecified s t = either (isSpecified s) (isSpecified t) ≡ false
 Told M.DoNotMatch s t = (either (isSpecified s) (isSpecified t) ≡ true) × (agree s t ≡ false)
 
@@ -39,6 +40,12 @@ told S.Word S.Word = (refl, refl, refl)
 pub both-no : (t : Bool) → both t false ≡ false
 both-no true = refl
 both-no false = refl
+
+pub both-swap : (s t : Bool) → both s t ≡ both t s
+both-swap true true = refl
+both-swap true false = refl
+both-swap false true = refl
+both-swap false false = refl
 
 -- a kind that is looked at for nothing
 pub kind-no : (k : OperandKind) → byKind k false false false false ≡ false

@@ -1,3 +1,4 @@
 pub mod Plans
-pub mod Blocks
+pub mod Lines
 pub mod Sizes
+pub mod Decisions

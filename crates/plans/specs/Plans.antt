@@ -7,21 +7,21 @@ use Rattle.mrc_compiler.specs.declared.encoder.InstructionData.{InstructionData
 use Rattle.mrc_compiler.specs.declared.encoder.OperandData.{OperandData}
 use Rattle.mrc_compiler.specs.declared.encoder.generate.Code.{Code}
 use Rattle.mrc_compiler.specs.declared.encoder.generate.Code.the-variants as C
+use Rattle.mrc_compiler.specs.declared.encoder.generate.Codes.{Codes}
 use Rattle.mrc_compiler.specs.declared.encoder.generate.Plan.{Plan}
 use Rattle.mrc_compiler.specs.declared.encoder.generate.Plan.the-variants as P
 use Rattle.mrc_compiler.specs.declared.encoder.generate.Why.the-variants as W
 use Rattle.mrc_compiler.specs.declared.encoder.generate.At.the-variants as At
-use Rattle.mrc_compiler.specs.declared.encoder.OperandSize.{OperandSize}
 use Rattle.mrc_compiler.specs.Choose.{pick}
 use Rattle.x86.specs.Forms.{Slot, rm, rm-near, mem, reg, sreg, sreg-not-cs, acc, low3, bits34, bits34-not-cs, CL, DX, one, moffs, xlat, ib, iw, ib-sx, cb, cw, ptr, nil, Extension, Form}
 use Rattle.x86.specs.Forms as F
-use Rattle.x86.specs.Instructions.{symmetric}
 use Rattle.x86.specs.Reading.{Place, nowhere, by-modrm, by-address, by-bx-al, about, somewhere}
 use Rattle.answers.specs.Records.{dst, src}
-use Rattle.answers.specs.Groups.{Group, groupOf}
+use Rattle.groups.specs.declared.Group.{Group}
+use Rattle.groups.specs.Grouping.{groupOf}
 use Rattle.answers.specs.Limits.{Kind, data-byte, data-word, memory-byte, memory-word, sign-extended, vector, port, address, target, segment, byteKind, wordKind}
-use Rattle.answers.specs.Choice.{Choice, none, straight, crossed, choice, choose, formsOf}
-use Rattle.answers.specs.Questions.{Ask, formFound, groupAsks, isSupported}
+use Rattle.answers.specs.Choice.{Choice, none, straight, crossed, choice, formsOf}
+use Rattle.answers.specs.Questions.{Ask, groupAsks, isSupported}
 
 -- ---- a form's codes; i and j say which operands stand in its slots
 -- the code of an immediate: MOV to memory takes negative ones too
@@ -121,15 +121,15 @@ fixed (F./ n) = []
 fixed F.0A = C.Byte 0x0A ∷ []
 
 -- one or two codes
-abbrev pub oneCode : Code → Plan
-oneCode c = P.Emit (record { first = c; second = c; count = 1 })
+abbrev pub oneCode : Code → Codes
+oneCode c = record { first = c; second = c; count = 1 }
 
-abbrev pub twoCodes : Code → Code → Plan
-twoCodes c d = P.Emit (record { first = c; second = d; count = 2 })
+abbrev pub twoCodes : Code → Code → Codes
+twoCodes c d = record { first = c; second = d; count = 2 }
 
 abbrev pub emitting : Code → List Code → Plan
-emitting c [] = oneCode c
-emitting c (d ∷ ds) = twoCodes c d
+emitting c [] = P.Emit (oneCode c)
+emitting c (d ∷ ds) = P.Emit (twoCodes c d)
 
 abbrev pub formPlan : Group → Form → ℕ → ℕ → Plan
 formPlan g f i j =
@@ -138,7 +138,7 @@ formPlan g f i j =
 
 -- ---- a group's answer: the first of its questions that gets no, or the codes of the form chosen
 abbrev pub choicePlan : Group → Choice → Plan
-choicePlan g none = oneCode (C.Byte 0)  -- never: question 5 has said no
+choicePlan g none = P.Emit (oneCode (C.Byte 0))  -- never: question 5 has said no
 choicePlan g (straight f) = formPlan g f 0 1
 choicePlan g (crossed f) = formPlan g f 1 0
 
@@ -151,17 +151,11 @@ abbrev pub planFor : Group → Choice → OperandData → OperandData → Plan
 planFor g c a b = refusing (groupAsks g c a b) (choicePlan g c)
 
 -- the plan of a group with these forms for a record
-unfoldable pub planBy : Group → Bool → List Form → InstructionData → Plan
-planBy g either-way fs insn = planFor g (choice g either-way fs (insn .«num_opers») (dst insn) (src insn)) (dst insn) (src insn)
-
--- the same once question 3 and 4 have settled the size w of the first operand and t of the second
-abbrev pub sizedPlan : Group → Bool → List Form → OperandSize → OperandSize → InstructionData → Plan
-sizedPlan g either-way fs w t insn =
-    let c = choose either-way fs w (dst insn) t (src insn) in
-    refusing (formFound g c (dst insn) (src insn) ∷ []) (choicePlan g c)
+abbrev pub planIn : Group → List Form → ℕ → OperandData → OperandData → Plan
+planIn g fs k a b = planFor g (choice g fs k a b) a b
 
 -- what the encoder's dispatch answers: question 2, then the record's group with the forms of its operation
 unfoldable pub planOf : InstructionData → Plan
 planOf insn =
     let op = insn .operation in
-    pick (isSupported (groupOf op)) (planBy (groupOf op) (symmetric op) (formsOf op) insn) (P.Refused W.NotSupported At.Operands)
+    pick (isSupported (groupOf op)) (planIn (groupOf op) (formsOf op) (insn .«num_opers») (dst insn) (src insn)) (P.Refused W.NotSupported At.Operands)

@@ -3,6 +3,9 @@
 use Prim.Native.Nat.{ℕ}
 use mathlib.Core.Bool.{Bool, true, false}
 use lib.Dec.{eqb}
+use Rattle.mrc_compiler.specs.declared.ast.DataSize.the-variants as Z
+use Rattle.mrc_compiler.specs.declared.ast.OptionDataSize.{OptionDataSize}
+use Rattle.mrc_compiler.specs.declared.ast.OptionDataSize.the-variants as OZ
 use Rattle.mrc_compiler.specs.declared.encoder.OperandSize.{OperandSize}
 use Rattle.mrc_compiler.specs.Choose.{both, bySize}
 use Rattle.plans.specs.declared.Common.{Common}
@@ -12,9 +15,12 @@ use Rattle.plans.specs.declared.Common.the-variants as M
 abbrev pub commonOf : OperandSize → OperandSize → Common
 commonOf a b =
     bySize a
-    (bySize b M.NotSpecified M.Byte M.Word)
-    (bySize b M.Byte M.Byte M.DoNotMatch)
-    (bySize b M.Word M.DoNotMatch M.Word)
+    (bySize b M.NotSpecified (M.Is Z.Byte) (M.Is Z.Word))
+    (bySize b (M.Is Z.Byte) (M.Is Z.Byte) M.DoNotMatch)
+    (bySize b (M.Is Z.Word) M.DoNotMatch (M.Is Z.Word))
+
+abbrev pub statedSize : OperandSize → OptionDataSize
+statedSize a = bySize a OZ.None (OZ.Some Z.Byte) (OZ.Some Z.Word)
 
 -- CL, DX, and [BX] without displacement
 abbrev pub isCl : OperandSize → ℕ → Bool

@@ -9,51 +9,49 @@ use lib.ListN.{getD}
 use Rattle.mrc_compiler.specs.declared.operations.Operation.{Operation}
 use Rattle.mrc_compiler.specs.Choose.{pick, either}
 use Rattle.x86.specs.declared.Read.the-variants as R
-use Rattle.x86.specs.Forms as F
+use Rattle.x86.specs.Forms.{Slot, Extension, Form, form}
 use Rattle.x86.specs.Listing.{Bytes}
 use Rattle.x86.specs.Reading.{some, startingWith, fitting, hasSecond, mayNameMemory, readForm, readFirst, readBehind, readSecond, readOpcode}
-use Rattle.x86.specs.Rows.{asRead, rows}
+use Rattle.x86.specs.Rows.{Shape, asRead, rows}
 use Rattle.x86.proofs.Rows.{as-read}
-use Rattle.slots.specs.Slots.{slotOf}
-use Rattle.shapes.specs.declared.Found.{Found}
-use Rattle.shapes.specs.declared.Found.the-variants as D
-use Rattle.shapes.specs.declared.Shape.{Shape}
+use Rattle.mrc_compiler.specs.declared.operations.OptionOperation.{OptionOperation}
+use Rattle.mrc_compiler.specs.declared.operations.OptionOperation.the-variants as D
 use Rattle.rows.specs.Rows.{nameOf, noForm, foundAt, extensionAt, shapeForm, anyForm, formAt}
 use Rattle.rows.proofs.Agree.{seen, saidBy, said, shapeOf, Agrees, agrees}
 use Rattle.reader.specs.Answer.{firstOf, goingOn, formBehind, withForm}
 use Rattle.reader.specs.ByRow.{byFound, readShape, decodedShape, decodedSecond, mayFollow, decodedBehind, decodedOpcode}
 
 -- the reading looks at nothing else of a form
-alike : (off p c x : ℕ) (t : List ℕ) (f : F.Form) (e : F.Extension) (op : Operation) (a b : F.Slot)
+alike : (off p c x : ℕ) (t : List ℕ) (f : Form) (e : Extension) (op : Operation) (a b : Slot)
     → f .operation ≡ op → hasSecond (f .extension) ≡ hasSecond e → asRead (f .first) ≡ a → asRead (f .second) ≡ b
-    → readForm off p c x t (F.form 0 e op a b) ≡ readForm off p c x t f
+    → readForm off p c x t (form 0 e op a b) ≡ readForm off p c x t f
 unfolding readForm
 alike off p c x t f e op a b ho he ha hb =
     rw (← ho, ← he, ← ha, ← hb)
     (simp (as-read (f .first) .knows, as-read (f .second) .knows, as-read (f .first) .reads, as-read (f .second) .reads))
 
 -- what a row says of c and x it reads, with the form's name
-shape-reads : (off p c x : ℕ) (t : List ℕ) (s : Shape) (gs : List F.Form) → said s c x ≡ seen gs
+shape-reads : (off p c x : ℕ) (t : List ℕ) (s : Shape) (gs : List Form) → said s c x ≡ seen gs
     → decodedShape off p s c x t ≡ withForm (readFirst off p c x t gs) (firstOf gs)
 unfolding decodedShape readShape
 shape-reads off p c x t s gs e = go (foundAt s c x) gs e
   where
-    go : (o : Found) (gs : List F.Form) → saidBy s c x o ≡ seen gs
+    go : (o : OptionOperation) (gs : List Form) → saidBy s c x o ≡ seen gs
         → withForm (byFound o R.Nothing (λ op. readForm off p c x t (shapeForm s op))) (formAt (s .class) c x)
         ≡ withForm (readFirst off p c x t gs) (firstOf gs)
-    go D.Unused [] e = refl
-    go D.Unused (g ∷ gs) e = cc
-    go (D.Is op) [] e = cc
-    go (D.Is op) (g ∷ gs) e =
+    go D.None [] e = refl
+    go D.None (g ∷ gs) e = cc
+    go (D.Some op) [] e = cc
+    go (D.Some op) (g ∷ gs) e =
         let n : formAt (s .class) c x ≡ nameOf g = cc in
-        rw (n, alike off p c x t g (extensionAt (s .class)) op (slotOf (s .first)) (slotOf (s .second)) (cc) (cc) (cc) (cc))
+        rw (n, alike off p c x t g (extensionAt (s .class)) op (s .first) (s .second) (cc) (cc) (cc) (cc))
 
 -- forms that agree on memory may follow a prefix together
-follow : (b m : Bool) (f : F.Form) (fs : List F.Form) → m ≡ some mayNameMemory (f ∷ fs) → some (λ f. either b (mayNameMemory f)) (f ∷ fs) ≡ either b m
+follow : (b m : Bool) (f : Form) (fs : List Form) → m ≡ some mayNameMemory (f ∷ fs) → some (λ f. either b (mayNameMemory f)) (f ∷ fs) ≡ either b m
 follow true m f fs e = refl
 follow false m f fs e = sym e
 
-behind : (off p c n : ℕ) (t : List ℕ) (s : Shape) (fs : List F.Form) → Bytes t → Agrees c n s fs
+behind : (off p c n : ℕ) (t : List ℕ) (s : Shape) (fs : List Form) → Bytes t → Agrees c n s fs
     → pick (eqb n 0) (withForm R.Nothing noForm) (decodedBehind off p s c t) ≡ withForm (readBehind off p c fs t) (firstOf (goingOn fs t))
 behind off p c n t s [] bs h = rw (h .unused) refl
 behind off p c n t s (f ∷ fs) bs h =

@@ -12,20 +12,18 @@ use borrow.Author.Tests.{eq-eqb, ne-eqb, lt-ltb, le-ltb, le-leb, lt-leb}
 use Rattle.mrc_compiler.specs.declared.encoder.OperandSize.{OperandSize}
 use Rattle.mrc_compiler.specs.declared.operations.Operation.{Operation}
 use Rattle.mrc_compiler.specs.declared.operations.Operation.the-variants.{XCHG}
-use Rattle.mrc_compiler.specs.Choose.{either}
+use Rattle.mrc_compiler.specs.Choose.{pick, either, bySize}
 use Rattle.mrc_compiler.specs.Operations.{sameOperation}
+use Rattle.forms.specs.declared.FormName.{FormName}
 use Rattle.x86.specs.declared.Operand.{Operand}
 use Rattle.x86.specs.declared.Instruction.{Instruction}
 use Rattle.x86.specs.declared.Read.{Read}
 use Rattle.x86.specs.declared.Read.the-variants as R
+use Rattle.x86.specs.Forms.{Slot}
 use Rattle.x86.specs.Instructions.{instruction, canonical}
 use Rattle.x86.specs.Listing.{Bytes}
-use Rattle.x86.specs.Reading.{about, at, widthOf, hasSecond, headLength, memoryLength, tailLength, namesMemory, readForm, prefix, reads}
-use Rattle.x86.specs.Rows.{rows}
-use Rattle.slots.specs.Slots.{slotOf}
-use Rattle.rows.specs.declared.Form.{Form}
-use Rattle.shapes.specs.declared.Shape.{Shape}
-use Rattle.shapes.specs.Shapes.{shapeNumbered}
+use Rattle.x86.specs.Reading.{About, about, at, widthOf, addressLength, hasSecond, headLength, memoryLength, tailLength, inMemory, namesMemory, readForm, prefix, reads}
+use Rattle.x86.specs.Rows.{Shape, rows, shapeNumbered}
 use Rattle.rows.specs.Rows.{extensionAt, shapeForm, anyForm, formAt}
 use Rattle.reader.specs.declared.Decoded.{Decoded}
 use Rattle.reader.specs.declared.Decoded.the-variants.{Whole, Nothing, More}
@@ -39,41 +37,54 @@ pub ruleset tests = (eq-eqb, ne-eqb, lt-ltb, le-ltb, le-leb, lt-leb)
 pub rest : (n : ℕ) (s : List ℕ) → take (length s - n) (drop n s) ≡ drop n s
 rest n s = take-all (length s - n) (drop n s) (simp length-drop (omega arith))
 
+-- opcode and second byte are at most two bytes
+pub one-or-two : {n : ℕ} (b : Bool) → n ≡ pick b 2 1 → n ≤ 2
+one-or-two true e = omega arith
+one-or-two false e = omega arith
+
 -- only XCHG is brought into another form
 pub as-it-is : (op : Operation) (w : OperandSize) (a b : Operand) → sameOperation op XCHG ≡ false → instruction op w a b ≡ canonical op w a b
 unfolding canonical
 as-it-is op w a b e = rw e refl
 
-pub parts : (op : Operation) (w v : OperandSize) (a b : Operand) (s : Shape) (p c x next m : ℕ) (t : List ℕ) (k : Instruction)
-    → a ≡ at (slotOf (s .first)) p c x next t (take (length t - m) (drop m t)) → b ≡ at (slotOf (s .second)) p c x next t (take (length t - m) (drop m t))
-    → w ≡ v → k ≡ canonical op w a b
-    → k ≡ canonical op v (at (slotOf (s .first)) p c x next t (drop m t)) (at (slotOf (s .second)) p c x next t (drop m t))
-parts op w v a b s p c x next m t k ea eb ew ek =
-    let fa : a ≡ at (slotOf (s .first)) p c x next t (drop m t) = rw (rest m t) at ea in
-    let fb : b ≡ at (slotOf (s .second)) p c x next t (drop m t) = rw (rest m t) at eb in
+pub parts : (op : Operation) (w : OperandSize) (a b : Operand) (f g : Slot) (p c x next m : ℕ) (t : List ℕ) (k : Instruction)
+    → a ≡ at f p c x next t (take (length t - m) (drop m t)) → b ≡ at g p c x next t (take (length t - m) (drop m t)) → k ≡ canonical op w a b
+    → k ≡ canonical op w (at f p c x next t (drop m t)) (at g p c x next t (drop m t))
+parts op w a b f g p c x next m t k ea eb ek =
+    let fa : a ≡ at f p c x next t (drop m t) = rw (rest m t) at ea in
+    let fb : b ≡ at g p c x next t (drop m t) = rw (rest m t) at eb in
     cc
 
--- ---- by a shape with an operation
-module _ (off p c x : ℕ) (t : List ℕ) (s : Shape) (op : Operation) (stand : Bool) (es : stand ≡ either (eqb p 0) (namesMemory (anyForm s) x)) where
+-- ---- by a shape with an operation; a and b are what is known of its slots
+module _ (off p c x : ℕ) (t : List ℕ) (s : Shape) (op : Operation) {a b : About} (ea : a ≡ about (s .first)) (eb : b ≡ about (s .second))
+    {stand : Bool} (es : stand ≡ either (eqb p 0) (either (inMemory (a .place) x) (inMemory (b .place) x))) where
+  stands : stand ≡ either (eqb p 0) (namesMemory (anyForm s) x)
+  stands = rw (ea, eb) at es
+
   pub form-nothing : stand ≡ false → Nothing ≡ withForm (readForm off p c x t (shapeForm s op)) (formAt (s .class) c x)
   unfolding readForm
-  form-nothing f = rw (sym es ∙ f) refl
+  form-nothing f = rw (sym stands ∙ f) refl
 
-  module _ (m i : ℕ) (y : stand ≡ true) (em : m ≡ memoryLength (anyForm s) x)
-      (ei : i ≡ about (slotOf (s .first)) .takes + about (slotOf (s .second)) .takes) where
-    pub form-more : length t < m + i → More ≡ withForm (readForm off p c x t (shapeForm s op)) (formAt (s .class) c x)
+  module _ {m : ℕ} (y : stand ≡ true) (em : m ≡ addressLength (a .place) x + addressLength (b .place) x) where
+    tails : m + (a .takes + b .takes) ≡ tailLength (anyForm s) x
+    tails = rw (em, ea, eb) refl
+
+    pub form-more : length t < m + (a .takes + b .takes) → More ≡ withForm (readForm off p c x t (shapeForm s op)) (formAt (s .class) c x)
     unfolding readForm
     form-more h =
-        let l : leb (tailLength (anyForm s) x) (length t) ≡ false = rw (← em, ← ei) (lt-leb (m + i) (length t) h) in
-        rw (sym es ∙ y, l) refl
+        let l : leb (tailLength (anyForm s) x) (length t) ≡ false = rw (← tails) (lt-leb (m + (a .takes + b .takes)) (length t) h) in
+        rw (sym stands ∙ y, l) refl
 
-    pub form-whole : (h : ℕ) (k : Instruction) (f : Form) → m + i ≤ length t → h ≡ headLength p (anyForm s)
-        → k ≡ canonical op (widthOf (anyForm s)) (at (slotOf (s .first)) p c x (off + (h + (m + i))) t (drop m t)) (at (slotOf (s .second)) p c x (off + (h + (m + i))) t (drop m t))
-        → f ≡ formAt (s .class) c x → Whole k f (h + (m + i)) ≡ withForm (readForm off p c x t (shapeForm s op)) (formAt (s .class) c x)
+    pub form-whole : {h : ℕ} {w : OperandSize} {k : Instruction} {f : FormName} → m + (a .takes + b .takes) ≤ length t → h ≡ headLength p (anyForm s)
+        → w ≡ bySize (a .width) (b .width) (a .width) (a .width)
+        → k ≡ canonical op w (at (s .first) p c x (off + (h + (m + (a .takes + b .takes)))) t (drop m t)) (at (s .second) p c x (off + (h + (m + (a .takes + b .takes)))) t (drop m t))
+        → f ≡ formAt (s .class) c x → Whole k f (h + (m + (a .takes + b .takes))) ≡ withForm (readForm off p c x t (shapeForm s op)) (formAt (s .class) c x)
     unfolding readForm
-    form-whole h k f le eh ek ef =
-        let l : leb (tailLength (anyForm s) x) (length t) ≡ true = rw (← em, ← ei) (le-leb (m + i) (length t) le) in
-        rw (sym es ∙ y, l) (cc)
+    form-whole {h} {w} {k} {f} le eh ew ek ef =
+        let l : leb (tailLength (anyForm s) x) (length t) ≡ true = rw (← tails) (le-leb (m + (a .takes + b .takes)) (length t) le) in
+        let v : w ≡ widthOf (anyForm s) = rw (ea, eb) at ew in
+        let n : m ≡ memoryLength (anyForm s) x = rw (ea, eb) at em in
+        rw (sym stands ∙ y, l) (cc)
 
 -- ---- behind a prefix
 pub opcode-empty : (off p : ℕ) (s : List ℕ) → length s ≤ 0 → More ≡ decodedOpcode off p s
@@ -99,26 +110,35 @@ module _ (off p n : ℕ) (f : Shape) (b : Bool) where
   opcode-nothing [] h o e = absurd (omega arith)
   opcode-nothing (c ∷ t) h o e = rw (← (o .row), ne-eqb n 0 (o .used), ← (o .shape), sym (o .follows) ∙ e) refl
 
-  module _ (k : Bool) (ek : k ≡ hasSecond (extensionAt (f .class))) where
-    pub opcode-more : (s : List ℕ) → 0 < length s → Opened p s n f b → b ≡ true → k ≡ true → length s ≤ 1 → More ≡ decodedOpcode off p s
+  -- k: whether there is a second byte; m: the bytes of opcode and second byte
+  module _ (k : Bool) (ek : k ≡ hasSecond (extensionAt (f .class))) (m : ℕ) (em : m ≡ pick k 2 1) (e : b ≡ true) where
+    pub opcode-more : (s : List ℕ) → 0 < length s → Opened p s n f b → length s < m → More ≡ decodedOpcode off p s
     unfolding decodedOpcode
-    opcode-more [] h o e y l = absurd (omega arith)
-    opcode-more (c ∷ []) h o e y l = rw (← (o .row), ne-eqb n 0 (o .used), ← (o .shape), sym (o .follows) ∙ e, sym ek ∙ y) refl
-    opcode-more (c ∷ x ∷ t) h o e y l = absurd (omega arith)
+    opcode-more [] h o l = absurd (omega arith)
+    opcode-more (c ∷ t) h o l = go k refl t l
+      where
+        go : (j : Bool) → k ≡ j → (t : List ℕ) → length (c ∷ t) < m → More ≡ decodedOpcode off p (c ∷ t)
+        go true q [] l = rw (← (o .row), ne-eqb n 0 (o .used), ← (o .shape), sym (o .follows) ∙ e, sym ek ∙ q) refl
+        go true q (x ∷ t) l = let d : m ≡ 2 = rw q at em in absurd (omega arith)
+        go false q t l = let d : m ≡ 1 = rw q at em in absurd (omega arith)
 
-    pub opcode-second : (s : List ℕ) (r : Decoded) → 1 < length s → Opened p s n f b → b ≡ true → k ≡ true
-        → r ≡ decodedShape off p f (getD s 0 0) (getD s 1 0) (take (length s - 2) (drop 2 s)) → r ≡ decodedOpcode off p s
+    pub opcode-on : (s : List ℕ) (x : ℕ) (r : Decoded) → 0 < length s → Opened p s n f b → m ≤ length s → x ≡ pick k (getD s 1 0) 0
+        → r ≡ decodedShape off p f (getD s 0 0) x (take (length s - m) (drop m s)) → r ≡ decodedOpcode off p s
     unfolding decodedOpcode
-    opcode-second [] r h o e y z = absurd (omega arith)
-    opcode-second (c ∷ []) r h o e y z = absurd (omega arith)
-    opcode-second (c ∷ x ∷ t) r h o e y z =
-        rw (← (o .row), ne-eqb n 0 (o .used), ← (o .shape), sym (o .follows) ∙ e, sym ek ∙ y) (rw (rest 2 (c ∷ x ∷ t)) at z)
-
-    pub opcode-plain : (s : List ℕ) (r : Decoded) → 0 < length s → Opened p s n f b → b ≡ true → k ≡ false
-        → r ≡ decodedShape off p f (getD s 0 0) 0 (take (length s - 1) (drop 1 s)) → r ≡ decodedOpcode off p s
-    unfolding decodedOpcode
-    opcode-plain [] r h o e y z = absurd (omega arith)
-    opcode-plain (c ∷ t) r h o e y z = rw (← (o .row), ne-eqb n 0 (o .used), ← (o .shape), sym (o .follows) ∙ e, sym ek ∙ y) (rw (rest 1 (c ∷ t)) at z)
+    opcode-on [] x r h o l ex z = absurd (omega arith)
+    opcode-on (c ∷ t) x r h o l ex z = go k refl t l ex z
+      where
+        go : (j : Bool) → k ≡ j → (t : List ℕ) → m ≤ length (c ∷ t) → x ≡ pick k (getD (c ∷ t) 1 0) 0
+            → r ≡ decodedShape off p f c x (take (length (c ∷ t) - m) (drop m (c ∷ t))) → r ≡ decodedOpcode off p (c ∷ t)
+        go true q [] l ex z = let d : m ≡ 2 = rw q at em in absurd (omega arith)
+        go true q (y ∷ t) l ex z =
+            let d : m ≡ 2 = rw q at em in
+            let w : x ≡ y = rw q at ex in
+            rw (← (o .row), ne-eqb n 0 (o .used), ← (o .shape), sym (o .follows) ∙ e, sym ek ∙ q) (rw (d, w, rest 2 (c ∷ y ∷ t)) at z)
+        go false q t l ex z =
+            let d : m ≡ 1 = rw q at em in
+            let w : x ≡ 0 = rw q at ex in
+            rw (← (o .row), ne-eqb n 0 (o .used), ← (o .shape), sym (o .follows) ∙ e, sym ek ∙ q) (rw (d, w, rest 1 (c ∷ t)) at z)
 
 -- ---- from the front
 pub read-empty : (off : ℕ) (s : List ℕ) → length s ≤ 0 → More ≡ decoded off s
@@ -126,21 +146,20 @@ unfolding decoded reads
 read-empty off [] h = refl
 read-empty off (c ∷ t) h = absurd (omega arith)
 
-pub read-prefixed : (off : ℕ) (s : List ℕ) (b : Bool) (r : Decoded) → 0 < length s → Bytes s → b ≡ prefix (getD s 0 0) → b ≡ true
-    → r ≡ decodedOpcode off (getD s 0 0) (take (length s - 1) (drop 1 s)) → r ≡ decoded off s
+-- from where the opcode stands: behind a prefix, or at the front
+pub read-on : (off : ℕ) (s : List ℕ) (n p : ℕ) (r : Decoded) → 0 < length s → Bytes s → n ≡ pick (prefix (getD s 0 0)) 1 0
+    → p ≡ pick (prefix (getD s 0 0)) (getD s 0 0) 0 → r ≡ decodedOpcode off p (take (length s - n) (drop n s)) → r ≡ decoded off s
 unfolding decoded reads
-read-prefixed off [] b r h bs eb y z = absurd (omega arith)
-read-prefixed off (c ∷ t) b r h bs eb y z = rw (sym eb ∙ y) ((rw (rest 1 (c ∷ t)) at z) ∙ opcode-by-row off c t (λ i. bs (suc i)))
-
-pub read-bare : (off : ℕ) (s : List ℕ) (b : Bool) (r : Decoded) → 0 < length s → Bytes s → b ≡ prefix (getD s 0 0) → b ≡ false
-    → r ≡ decodedOpcode off 0 s → r ≡ decoded off s
-unfolding decoded reads
-read-bare off [] b r h bs eb y z = absurd (omega arith)
-read-bare off (c ∷ t) b r h bs eb y z = rw (sym eb ∙ y) (z ∙ opcode-by-row off 0 (c ∷ t) bs)
+read-on off [] n p r h bs en ep z = absurd (omega arith)
+read-on off (c ∷ t) n p r h bs en ep z = go (prefix c) refl en ep
+  where
+    go : (b : Bool) → prefix c ≡ b → n ≡ pick b 1 0 → p ≡ pick b c 0 → r ≡ decoded off (c ∷ t)
+    go true q en ep = rw q ((rw (en, ep, rest 1 (c ∷ t)) at z) ∙ opcode-by-row off c t (λ i. bs (suc i)))
+    go false q en ep = rw q ((rw (en, ep, rest 0 (c ∷ t)) at z) ∙ opcode-by-row off 0 (c ∷ t) bs)
 
 -- ---- without the form
 module _ (off : ℕ) (s : List ℕ) where
-  pub whole-back : (m : Instruction) (f : Form) (n : ℕ) → decoded off s ≡ Whole m f n → R.Whole m n ≡ reads off s
+  pub whole-back : (m : Instruction) (f : FormName) (n : ℕ) → decoded off s ≡ Whole m f n → R.Whole m n ≡ reads off s
   unfolding decoded
   whole-back m f n e = go (reads off s) e
     where

@@ -13,7 +13,7 @@ use Rattle.x86.specs.Listing.{Bytes}
 use Rattle.x86.specs.Reading.{reads}
 use Rattle.x86.proofs.Extend.{Continues, answers}
 use Rattle.x86.proofs.Sizes.{read-size}
-use Rattle.rows.specs.declared.Form.{Form}
+use Rattle.forms.specs.declared.FormName.{FormName}
 use Rattle.reader.specs.declared.Refusal.the-variants as N
 use Rattle.reader.specs.Answer.{formOf, withForm, decoded, refusalOf}
 
@@ -43,17 +43,17 @@ none-some : (k : ℕ) → N.None ≡ N.Is k → ⊥
 none-some k e = let z : _≡_ {A = ℕ} 0 1 = cc in omega arith
 
 -- what a number says of the reading
-says-none : (r : Read) (f : Form) → refusalOf (withForm r f) ≡ N.None → (m : Instruction) × (n : ℕ) × (r ≡ R.Whole m n)
+says-none : (r : Read) (f : FormName) → refusalOf (withForm r f) ≡ N.None → (m : Instruction) × (n : ℕ) × (r ≡ R.Whole m n)
 says-none (R.Whole m n) f e = (m, n, refl)
 says-none R.Nothing f e = absurd (none-some 10 (sym e))
 says-none R.More f e = absurd (none-some 11 (sym e))
 
-says-ten : (r : Read) (f : Form) → refusalOf (withForm r f) ≡ N.Is 10 → r ≡ R.Nothing
+says-ten : (r : Read) (f : FormName) → refusalOf (withForm r f) ≡ N.Is 10 → r ≡ R.Nothing
 says-ten (R.Whole m n) f e = absurd (none-some 10 e)
 says-ten R.Nothing f e = refl
 says-ten R.More f e = absurd (ten-eleven (sym e))
 
-says-eleven : (r : Read) (f : Form) → refusalOf (withForm r f) ≡ N.Is 11 → r ≡ R.More
+says-eleven : (r : Read) (f : FormName) → refusalOf (withForm r f) ≡ N.Is 11 → r ≡ R.More
 says-eleven (R.Whole m n) f e = absurd (none-some 11 e)
 says-eleven R.Nothing f e = absurd (ten-eleven e)
 says-eleven R.More f e = refl

@@ -4,10 +4,10 @@ use Prim.Native.Nat.{ℕ}
 use mathlib.Core.List.{List, [], _∷_}
 use lib.ListN.{getD}
 use Rattle.mrc_compiler.specs.Choose.{pick}
+use Rattle.forms.specs.declared.FormName.{FormName}
 use Rattle.x86.specs.declared.Read.{Read}
 use Rattle.x86.specs.declared.Read.the-variants as R
-use Rattle.x86.specs.Forms as F
-use Rattle.rows.specs.declared.Form.{Form}
+use Rattle.x86.specs.Forms.{Form}
 use Rattle.rows.specs.Rows.{nameOf, noForm}
 use Rattle.x86.specs.Reading.{some, startingWith, fitting, hasSecond, prefix, reads}
 use Rattle.reader.specs.declared.Decoded.{Decoded}
@@ -15,24 +15,24 @@ use Rattle.reader.specs.declared.Decoded.the-variants.{Whole, Nothing, M
 use Rattle.reader.specs.declared.Refusal.{Refusal}
 use Rattle.reader.specs.declared.Refusal.the-variants as N
 
-abbrev pub firstOf : List F.Form → Form
+abbrev pub firstOf : List Form → FormName
 firstOf [] = noForm
 firstOf (f ∷ fs) = nameOf f
 
 -- the forms fs of a first byte that go on with the bytes t
-abbrev pub goingOn : List F.Form → List ℕ → List F.Form
+abbrev pub goingOn : List Form → List ℕ → List Form
 goingOn fs t = pick (some (λ f. hasSecond (f .extension)) fs) (fitting (getD t 0 0) fs) fs
 
 -- the form by which bytes behind a prefix read: the first that fits
-abbrev pub formBehind : List ℕ → Form
+abbrev pub formBehind : List ℕ → FormName
 formBehind [] = noForm
 formBehind (c ∷ t) = firstOf (goingOn (startingWith c) t)
 
-abbrev pub formOf : List ℕ → Form
+abbrev pub formOf : List ℕ → FormName
 formOf [] = noForm
 formOf (b ∷ s) = pick (prefix b) (formBehind s) (formBehind (b ∷ s))
 
-abbrev pub withForm : Read → Form → Decoded
+abbrev pub withForm : Read → FormName → Decoded
 withForm (R.Whole m n) f = Whole m f n
 withForm R.Nothing f = Nothing
 withForm R.More f = More

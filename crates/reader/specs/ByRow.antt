@@ -11,18 +11,16 @@ use Rattle.mrc_compiler.specs.Choose.{pick, either}
 use Rattle.x86.specs.declared.Read.{Read}
 use Rattle.x86.specs.declared.Read.the-variants as R
 use Rattle.x86.specs.Reading.{hasSecond, mayNameMemory, readForm}
-use Rattle.x86.specs.Rows.{rows}
-use Rattle.shapes.specs.declared.Found.{Found}
-use Rattle.shapes.specs.declared.Found.the-variants as D
-use Rattle.shapes.specs.declared.Shape.{Shape}
-use Rattle.shapes.specs.Shapes.{shapeNumbered}
+use Rattle.x86.specs.Rows.{Shape, rows, shapeNumbered}
+use Rattle.mrc_compiler.specs.declared.operations.OptionOperation.{OptionOperation}
+use Rattle.mrc_compiler.specs.declared.operations.OptionOperation.the-variants as D
 use Rattle.rows.specs.Rows.{noForm, foundAt, extensionAt, shapeForm, anyForm, formAt}
 use Rattle.reader.specs.declared.Decoded.{Decoded}
 use Rattle.reader.specs.Answer.{withForm}
 
-abbrev pub byFound : {A : Type 0} → Found → A → (Operation → A) → A
-byFound D.Unused n f = n
-byFound (D.Is op) n f = f op
+abbrev pub byFound : {A : Type 0} → OptionOperation → A → (Operation → A) → A
+byFound D.None n f = n
+byFound (D.Some op) n f = f op
 
 unfoldable pub readShape : ℕ → ℕ → Shape → ℕ → ℕ → List ℕ → Read
 readShape off p s c x t = byFound (foundAt s c x) R.Nothing (λ op. readForm off p c x t (shapeForm s op))

@@ -4,21 +4,23 @@ ghost use Prim.Native.Nat.{_+_, _≤_, _<_};
 ghost use lib.Dec.{eqb};
 ghost use lib.ListN.{length, getD, drop};
 ghost use Rattle.mrc_compiler.specs.declared.operations.Operation.the-variants.{XCHG};
-ghost use Rattle.mrc_compiler.specs.Choose.{either};
+ghost use Rattle.mrc_compiler.specs.Choose.{pick, either, bySize};
 ghost use Rattle.mrc_compiler.specs.Operations.{sameOperation};
 ghost use Rattle.x86.specs.Instructions.{canonical};
-ghost use Rattle.x86.specs.Reading.{about, at, widthOf, headLength, memoryLength, namesMemory, readForm, prefix, reads};
-ghost use Rattle.x86.specs.Rows.{rows};
-ghost use Rattle.slots.specs.Slots.{slotOf};
-ghost use Rattle.shapes.specs.Shapes.{shapeNumbered};
-ghost use Rattle.rows.specs.Rows.{exchanges, shapeForm, anyForm, formAt};
+ghost use Rattle.x86.specs.Reading.{about, at, addressLength, hasSecond, inMemory, readForm, prefix, reads};
+ghost use Rattle.x86.specs.Rows.{rows, shapeNumbered};
+ghost use Rattle.rows.specs.Rows.{exchanges, extensionAt, shapeForm, formAt};
 ghost use Rattle.reader.specs.Answer.{withForm, decoded, refusalOf};
 ghost use Rattle.reader.specs.ByRow.{mayFollow, decodedShape, decodedOpcode};
+use forms::About;
+use forms::Class;
+use forms::FormName;
+use forms::Place;
+use forms::Shape;
+use forms::Slot;
 use mrc_compiler::encoder::OperandSize;
 use mrc_compiler::operations::Operation;
-use rows::Form;
-use shapes::Found;
-use shapes::Shape;
+use mrc_compiler::operations::OptionOperation;
 use x86::Instruction;
 use x86::Operand;
 use x86::Read;
@@ -26,7 +28,7 @@ use x86::Read;
 // What stands at the front of some bytes.
 pub enum Decoded {
     // An instruction, the form by which the bytes read, and its length.
-    Whole(Instruction, Form, usize),
+    Whole(Instruction, FormName, usize),
 
     // Refusal 10: no instruction begins so.
     Nothing,
@@ -50,78 +52,61 @@ fn may_follow(prefix: u8, shape: Shape) -> bool
     if prefix == 0 {
         return true;
     }
-    if slots::may_name_memory(slots::slot_place(first)) {
+    let a = first.about();
+    let b = second.about();
+    let p = a.place;
+    let q = b.place;
+    if slots::may_name_memory(p) {
         return true;
     }
-    slots::may_name_memory(slots::slot_place(second))
+    slots::may_name_memory(q)
 }
 
-// May the prefix stand before it, with second byte x?
-fn may_stand(prefix: u8, shape: Shape, x: u8) -> bool
-    ensures { λ r. ⌜ r ≡ either (eqb prefix 0) (namesMemory (anyForm shape) x) ⌝ }
+// May the prefix stand before slots with these places, with second byte x?
+fn may_stand(prefix: u8, first: Place, second: Place, x: u8) -> bool
+    ensures { λ r. ⌜ r ≡ either (eqb prefix 0) (either (inMemory first x) (inMemory second x)) ⌝ }
 {
-    let first = shape.first;
-    let second = shape.second;
     if prefix == 0 {
         return true;
     }
-    if slots::in_memory(slots::slot_place(first), x) {
+    if slots::in_memory(first, x) {
         return true;
     }
-    slots::in_memory(slots::slot_place(second), x)
+    slots::in_memory(second, x)
+}
+
+// The bytes of opcode and second byte.
+fn opcode_length(second: bool) -> usize
+    ensures { λ r. ⌜ r ≡ pick second 2 1 ⌝ }
+{
+    if second { 2 } else { 1 }
 }
 
 // Prefix, opcode and second byte.
-fn head_length(prefix: u8, shape: Shape) -> usize
-    ensures { λ r. ⌜ r ≡ headLength prefix (anyForm shape) ⌝ }
+fn head_length(prefix: u8, class: Class) -> usize
+    ensures { λ r. ⌜ r ≡ pick (eqb prefix 0) 0 1 + pick (hasSecond (extensionAt class)) 2 1 ⌝ }
     ensures small { λ r. ⌜ r ≤ 3 ⌝ }
 {
-    let class = shape.class;
-    if prefix == 0 {
-        if rows::has_second(class) {
-            return 2;
-        }
-        return 1;
-    }
-    if rows::has_second(class) {
-        return 3;
-    }
-    2
+    let n = opcode_length(rows::has_second(class));
+    if prefix == 0 { n } else { 1 + n }
 }
 
 // The displacement or address.
-fn memory_length(shape: Shape, x: u8) -> usize
-    ensures { λ r. ⌜ r ≡ memoryLength (anyForm shape) x ⌝ }
+fn memory_length(first: Place, second: Place, x: u8) -> usize
+    ensures { λ r. ⌜ r ≡ addressLength first x + addressLength second x ⌝ }
     ensures small { λ r. ⌜ r ≤ 510 ⌝ }
 {
-    let first = shape.first;
-    let second = shape.second;
-    let a = slots::address_length(slots::slot_place(first), x);
-    let b = slots::address_length(slots::slot_place(second), x);
-    (a as usize) + (b as usize)
-}
-
-// The immediate.
-fn immediate_length(shape: Shape) -> usize
-    ensures { λ r. ⌜ r ≡ about (slotOf (shape .first)) .takes + about (slotOf (shape .second)) .takes ⌝ }
-    ensures small { λ r. ⌜ r ≤ 510 ⌝ }
-{
-    let first = shape.first;
-    let second = shape.second;
-    let a = slots::slot_takes(first);
-    let b = slots::slot_takes(second);
+    let a = slots::address_length(first, x);
+    let b = slots::address_length(second, x);
     (a as usize) + (b as usize)
 }
 
 // The form's width: what its first slot states, or else its second.
-fn width_of(shape: Shape) -> OperandSize
-    ensures { λ r. ⌜ r ≡ widthOf (anyForm shape) ⌝ }
+fn width_of(first: OperandSize, second: OperandSize) -> OperandSize
+    ensures { λ r. ⌜ r ≡ bySize first second first first ⌝ }
 {
-    let first = shape.first;
-    let second = shape.second;
-    let w = slots::slot_width(first);
-    match w {
-        OperandSize::Unspecified => slots::slot_width(second),
+    match first {
+        OperandSize::Unspecified => second,
         OperandSize::Byte => OperandSize::Byte,
         OperandSize::Word => OperandSize::Word,
     }
@@ -143,10 +128,12 @@ fn settled(c: u8, operation: Operation, width: OperandSize, a: Operand, b: Opera
     }
 }
 
-// The instruction whose memory bytes are the first of t, and the immediate what follows them.
+// The instruction of an operation, a width and two slots; its memory bytes are the first of t, and the immediate what follows them.
 fn instruction_at(
-    shape: Shape,
     operation: Operation,
+    width: OperandSize,
+    first: Slot,
+    second: Slot,
     prefix: u8,
     c: u8,
     x: u8,
@@ -155,19 +142,18 @@ fn instruction_at(
     t: &[u8],
 ) -> Instruction
     requires { ⌜ (sameOperation operation XCHG ≡ exchanges c) × (next < 131072) × (memory ≤ length (now t)) ⌝ }
-    ensures { λ r. ⌜ r ≡ canonical operation (widthOf (anyForm shape)) (at (slotOf (shape .first)) prefix c x next (now (t .entry)) (drop memory (now (t .entry)))) (at (slotOf (shape .second)) prefix c x next (now (t .entry)) (drop memory (now (t .entry)))) ⌝ }
+    ensures { λ r. ⌜ r ≡ canonical operation width (at first prefix c x next (now (t .entry)) (drop memory (now (t .entry)))) (at second prefix c x next (now (t .entry)) (drop memory (now (t .entry)))) ⌝ }
 {
-    let first = shape.first;
-    let second = shape.second;
     let a = slots::operand_at(first, prefix, c, x, next, t, &t[memory..]);
     let b = slots::operand_at(second, prefix, c, x, next, t, &t[memory..]);
-    let width = width_of(shape);
     settled(c, operation, width, a, b)
 }
 
-// The bytes t behind opcode and second byte, read by a shape with an operation.
+// The bytes t behind opcode and second byte, read by a shape with an operation; a and b are what is known of its slots.
 fn read_form(
     shape: Shape,
+    a: About,
+    b: About,
     operation: Operation,
     prefix: u8,
     c: u8,
@@ -175,17 +161,35 @@ fn read_form(
     offset: u16,
     t: &[u8],
 ) -> Decoded
-    requires { ⌜ sameOperation operation XCHG ≡ exchanges c ⌝ }
+    requires { ⌜ (sameOperation operation XCHG ≡ exchanges c) × (a ≡ about (shape .first)) × (b ≡ about (shape .second)) ⌝ }
     ensures { λ r. ⌜ r ≡ withForm (readForm offset prefix c x (now (t .entry)) (shapeForm shape operation)) (formAt (shape .class) c x) ⌝ }
 {
     let class = shape.class;
-    if may_stand(prefix, shape, x) {
-        let memory = memory_length(shape, x);
-        let tail = memory + immediate_length(shape);
+    let first = shape.first;
+    let second = shape.second;
+    let p = a.place;
+    let q = b.place;
+    let v = a.width;
+    let w = b.width;
+    if may_stand(prefix, p, q, x) {
+        let memory = memory_length(p, q, x);
+        let tail = memory + ((a.takes as usize) + (b.takes as usize));
         if tail <= t.len() {
-            let n = head_length(prefix, shape) + tail;
+            let n = head_length(prefix, class) + tail;
             let next = (offset as u32) + (n as u32);
-            let m = instruction_at(shape, operation, prefix, c, x, next, memory, t);
+            let width = width_of(v, w);
+            let m = instruction_at(
+                operation,
+                width,
+                first,
+                second,
+                prefix,
+                c,
+                x,
+                next,
+                memory,
+                t,
+            );
             let f = rows::form_at(class, c, x);
             return Decoded::Whole(m, f, n);
         }
@@ -199,10 +203,40 @@ fn read_shape(shape: Shape, prefix: u8, c: u8, x: u8, offset: u16, t: &[u8]) -> 
     requires { ⌜ shape ≡ shapeNumbered (getD rows c 0) ⌝ }
     ensures { λ r. ⌜ r ≡ decodedShape offset prefix shape c x (now (t .entry)) ⌝ }
 {
-    match rows::found_at(shape, c, x) {
-        Found::Unused => Decoded::Nothing,
-        Found::Is(operation) => read_form(shape, operation, prefix, c, x, offset, t),
+    let class = shape.class;
+    let first = shape.first;
+    let second = shape.second;
+    let a = first.about();
+    let b = second.about();
+    let v = a.only;
+    let w = b.only;
+    match rows::found_at(class, v, w, c, x) {
+        OptionOperation::None => Decoded::Nothing,
+        OptionOperation::Some(operation) => read_form(
+            shape,
+            a,
+            b,
+            operation,
+            prefix,
+            c,
+            x,
+            offset,
+            t,
+        ),
     }
+}
+
+// The second byte, 0 where there is none.
+fn second_byte(second: bool, s: &[u8]) -> u8
+    ensures { λ r. ⌜ r ≡ pick second (getD (now (s .entry)) 1 0) 0 ⌝ }
+{
+    if second {
+        if 1 < s.len() {
+            return s[1];
+        }
+        return 0;
+    }
+    0
 }
 
 // The bytes behind the prefix (0: none).
@@ -215,17 +249,16 @@ fn read_opcode(prefix: u8, s: &[u8], offset: u16) -> Decoded
         if row == 0 {
             return Decoded::Nothing;
         }
-        let shape = shapes::shape_of(row);
+        let shape = rows::shape_of(row);
         if may_follow(prefix, shape) {
             let class = shape.class;
-            if rows::has_second(class) {
-                if 1 < s.len() {
-                    let x = s[1];
-                    return read_shape(shape, prefix, c, x, offset, &s[2..]);
-                }
-                return Decoded::More;
+            let second = rows::has_second(class);
+            let from = opcode_length(second);
+            if from <= s.len() {
+                let x = second_byte(second, s);
+                return read_shape(shape, prefix, c, x, offset, &s[from..]);
             }
-            return read_shape(shape, prefix, c, 0, offset, &s[1..]);
+            return Decoded::More;
         }
         return Decoded::Nothing;
     }
@@ -248,16 +281,29 @@ fn is_prefix(b: u8) -> bool
     b == 0x3E
 }
 
+// The prefix that a first byte is, 0 where it is none.
+fn prefix_of(b: u8) -> u8
+    ensures { λ r. ⌜ r ≡ pick (prefix b) b 0 ⌝ }
+{
+    if is_prefix(b) { b } else { 0 }
+}
+
+// Where the opcode stands behind a first byte.
+fn opcode_start(b: u8) -> usize
+    ensures { λ r. ⌜ r ≡ pick (prefix b) 1 0 ⌝ }
+    ensures small { λ r. ⌜ r ≤ 1 ⌝ }
+{
+    if is_prefix(b) { 1 } else { 0 }
+}
+
 // What stands at the front of the bytes, with the form by which it reads; near targets are for this offset.
 pub fn read(bytes: &[u8], offset: u16) -> Decoded
     ensures { λ r. ⌜ r ≡ decoded offset (now (bytes .entry)) ⌝ }
 {
     if 0 < bytes.len() {
         let b = bytes[0];
-        if is_prefix(b) {
-            return read_opcode(b, &bytes[1..], offset);
-        }
-        return read_opcode(0, bytes, offset);
+        let start = opcode_start(b);
+        return read_opcode(prefix_of(b), &bytes[start..], offset);
     }
     Decoded::More
 }

@@ -9,11 +9,11 @@ the form's opcode, extension (0 none, 1 +r, 2 + segment, 3 /r, 4 /n, 5 0A) and d
 Where the values come from: operation, width, operands and length from ndisasm's text; the form from the opcode column of the Intel SDM
 (FORMS below); LOCK, REP and REPNE, which ndisasm takes for prefixes, and the refusals from document 01. XCHG's operands are put in the
 order that makes the same instructions equal (register first, the lower first; AX,AX is NOP)."""
-import re, subprocess, sys, tempfile
+import pathlib, re, subprocess, sys, tempfile
 
-OPERATIONS = ('MOV PUSH POP XCHG IN OUT XLATB LEA LDS LES LAHF SAHF PUSHF POPF ADD ADC INC AAA DAA SUB SBB DEC NEG CMP AAS DAS MUL IMUL AAM DIV IDIV AAD CBW CWD '
-    'NOT SHL SHR SAR ROL ROR RCL RCR AND TEST OR XOR REP REPNE MOVSB MOVSW CMPSB CMPSW SCASB SCASW LODSB LODSW STOSB STOSW CALL JMP RET JE JL JLE JB JBE JP JO JS '
-    'JNE JNL JNLE JNB JNBE JNP JNO JNS LOOP LOOPZ LOOPNZ JCXZ INT INT1 INT3 INTO IRET CLC CMC STC CLD STD CLI STI HLT WAIT ESC LOCK NOP SALC').split()
+sys.path.insert(0, str(pathlib.Path(__file__).resolve().parents[3] / 'tools'))
+from operations import OPERATIONS
+
 # ndisasm's names where they are not 002's
 NAMES = dict(jz='JE', jnz='JNE', jc='JB', jnc='JNB', jna='JBE', ja='JNBE', jpe='JP', jpo='JNP', jnl='JNL', jng='JLE', jg='JNLE',
     loope='LOOPZ', loopne='LOOPNZ', retn='RET', ret='RET')

@@ -3,12 +3,11 @@
 ghost use mathlib.Core.Path.{_≡_};
 ghost use Prim.Native.Nat.{_<_};
 ghost use lib.ListN.{length};
+use forms::Extension;
 use mrc_compiler::ast::Segment;
 use mrc_compiler::encoder::OperandSize;
-use mrc_compiler::operations::Operation;
 use reader::Decoded;
 use reader::Refusal;
-use rows::Extension;
 use x86::Operand;
 
 // An operand in the bytes of a row: kind, number or base, value low and high, segment.
@@ -101,111 +100,6 @@ fn length_number(n: usize) -> u8 {
     if n < 256 { n as u8 } else { 0 }
 }
 
-// The place of an operation in 002.
-fn operation_number(operation: Operation) -> u8 {
-    match operation {
-        Operation::MOV => 0,
-        Operation::PUSH => 1,
-        Operation::POP => 2,
-        Operation::XCHG => 3,
-        Operation::IN => 4,
-        Operation::OUT => 5,
-        Operation::XLATB => 6,
-        Operation::LEA => 7,
-        Operation::LDS => 8,
-        Operation::LES => 9,
-        Operation::LAHF => 10,
-        Operation::SAHF => 11,
-        Operation::PUSHF => 12,
-        Operation::POPF => 13,
-        Operation::ADD => 14,
-        Operation::ADC => 15,
-        Operation::INC => 16,
-        Operation::AAA => 17,
-        Operation::DAA => 18,
-        Operation::SUB => 19,
-        Operation::SBB => 20,
-        Operation::DEC => 21,
-        Operation::NEG => 22,
-        Operation::CMP => 23,
-        Operation::AAS => 24,
-        Operation::DAS => 25,
-        Operation::MUL => 26,
-        Operation::IMUL => 27,
-        Operation::AAM => 28,
-        Operation::DIV => 29,
-        Operation::IDIV => 30,
-        Operation::AAD => 31,
-        Operation::CBW => 32,
-        Operation::CWD => 33,
-        Operation::NOT => 34,
-        Operation::SHL => 35,
-        Operation::SHR => 36,
-        Operation::SAR => 37,
-        Operation::ROL => 38,
-        Operation::ROR => 39,
-        Operation::RCL => 40,
-        Operation::RCR => 41,
-        Operation::AND => 42,
-        Operation::TEST => 43,
-        Operation::OR => 44,
-        Operation::XOR => 45,
-        Operation::REP => 46,
-        Operation::REPNE => 47,
-        Operation::MOVSB => 48,
-        Operation::MOVSW => 49,
-        Operation::CMPSB => 50,
-        Operation::CMPSW => 51,
-        Operation::SCASB => 52,
-        Operation::SCASW => 53,
-        Operation::LODSB => 54,
-        Operation::LODSW => 55,
-        Operation::STOSB => 56,
-        Operation::STOSW => 57,
-        Operation::CALL => 58,
-        Operation::JMP => 59,
-        Operation::RET => 60,
-        Operation::JE => 61,
-        Operation::JL => 62,
-        Operation::JLE => 63,
-        Operation::JB => 64,
-        Operation::JBE => 65,
-        Operation::JP => 66,
-        Operation::JO => 67,
-        Operation::JS => 68,
-        Operation::JNE => 69,
-        Operation::JNL => 70,
-        Operation::JNLE => 71,
-        Operation::JNB => 72,
-        Operation::JNBE => 73,
-        Operation::JNP => 74,
-        Operation::JNO => 75,
-        Operation::JNS => 76,
-        Operation::LOOP => 77,
-        Operation::LOOPZ => 78,
-        Operation::LOOPNZ => 79,
-        Operation::JCXZ => 80,
-        Operation::INT => 81,
-        Operation::INT1 => 82,
-        Operation::INT3 => 83,
-        Operation::INTO => 84,
-        Operation::IRET => 85,
-        Operation::CLC => 86,
-        Operation::CMC => 87,
-        Operation::STC => 88,
-        Operation::CLD => 89,
-        Operation::STD => 90,
-        Operation::CLI => 91,
-        Operation::STI => 92,
-        Operation::HLT => 93,
-        Operation::WAIT => 94,
-        Operation::ESC => 95,
-        Operation::LOCK => 96,
-        Operation::NOP => 97,
-        Operation::SALC => 98,
-    }
-}
-
 // What is read, in the bytes of a row.
 fn answer(decoded: Decoded) -> [u8; 17] {
     let refused = refusal_number(decoded.refusal());
@@ -221,7 +115,7 @@ fn answer(decoded: Decoded) -> [u8; 17] {
             [
                 refused,
                 length_number(n),
-                operation_number(operation),
+                operation.number(),
                 width_number(width),
                 f.opcode,
                 extension_number(extension),

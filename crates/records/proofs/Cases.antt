@@ -14,7 +14,8 @@ use Rattle.mrc_compiler.specs.declared.ast.Segment.the-variants as G
 use Rattle.mrc_compiler.specs.declared.encoder.OperandSize.the-variants as S
 use Rattle.mrc_compiler.specs.declared.operations.Operation.the-variants as Op
 use Rattle.mrc_compiler.specs.Builders.{immediateOperand, registerOperand, indirectOperand, farOperand, oneOperand, twoOperands}
-use Rattle.records.specs.Record.{operations, kindPlace, sizePlace, displacementSizePlace, jumpKindPlace, operationPlace, countPlace, firstPlace, secondPlace, recordLength, operandAt, instructionAt, operandKnown, codesKnown}
+use Rattle.mrc_compiler.specs.Operations.{operations}
+use Rattle.records.specs.Record.{kindPlace, sizePlace, displacementSizePlace, jumpKindPlace, operationPlace, countPlace, firstPlace, secondPlace, recordLength, operandAt, instructionAt, operandKnown, codesKnown}
 
 abbrev whole : Span
 whole = record { start = 1; end = 9 }

@@ -18,23 +18,11 @@ use Rattle.mrc_compiler.specs.declared.encoder.JumpKind.the-variants as J
 use Rattle.mrc_compiler.specs.declared.encoder.OperandData.{OperandData}
 use Rattle.mrc_compiler.specs.declared.encoder.InstructionData.{InstructionData}
 use Rattle.mrc_compiler.specs.Choose.{both}
+use Rattle.mrc_compiler.specs.Operations.{operations}
 use Rattle.mrc_compiler.specs.Builders.{instruction}
 use Rattle.values.specs.Distances.{asI32}
 
--- ---- codes: numbers from 0 in document 01's order; those of operations in 002's
-unfoldable pub operations : List Operation
-operations =
-    Op.MOV ∷ Op.PUSH ∷ Op.POP ∷ Op.XCHG ∷ Op.IN ∷ Op.OUT ∷ Op.XLATB ∷ Op.LEA ∷ Op.LDS ∷ Op.LES
-    ∷ Op.LAHF ∷ Op.SAHF ∷ Op.PUSHF ∷ Op.POPF ∷ Op.ADD ∷ Op.ADC ∷ Op.INC ∷ Op.AAA ∷ Op.DAA ∷ Op.SUB
-    ∷ Op.SBB ∷ Op.DEC ∷ Op.NEG ∷ Op.CMP ∷ Op.AAS ∷ Op.DAS ∷ Op.MUL ∷ Op.IMUL ∷ Op.AAM ∷ Op.DIV
-    ∷ Op.IDIV ∷ Op.AAD ∷ Op.CBW ∷ Op.CWD ∷ Op.NOT ∷ Op.SHL ∷ Op.SHR ∷ Op.SAR ∷ Op.ROL ∷ Op.ROR
-    ∷ Op.RCL ∷ Op.RCR ∷ Op.AND ∷ Op.TEST ∷ Op.OR ∷ Op.XOR ∷ Op.REP ∷ Op.REPNE ∷ Op.MOVSB ∷ Op.MOVSW
-    ∷ Op.CMPSB ∷ Op.CMPSW ∷ Op.SCASB ∷ Op.SCASW ∷ Op.LODSB ∷ Op.LODSW ∷ Op.STOSB ∷ Op.STOSW ∷ Op.CALL ∷ Op.JMP
-    ∷ Op.RET ∷ Op.JE ∷ Op.JL ∷ Op.JLE ∷ Op.JB ∷ Op.JBE ∷ Op.JP ∷ Op.JO ∷ Op.JS ∷ Op.JNE
-    ∷ Op.JNL ∷ Op.JNLE ∷ Op.JNB ∷ Op.JNBE ∷ Op.JNP ∷ Op.JNO ∷ Op.JNS ∷ Op.LOOP ∷ Op.LOOPZ ∷ Op.LOOPNZ
-    ∷ Op.JCXZ ∷ Op.INT ∷ Op.INT1 ∷ Op.INT3 ∷ Op.INTO ∷ Op.IRET ∷ Op.CLC ∷ Op.CMC ∷ Op.STC ∷ Op.CLD
-    ∷ Op.STD ∷ Op.CLI ∷ Op.STI ∷ Op.HLT ∷ Op.WAIT ∷ Op.ESC ∷ Op.LOCK ∷ Op.NOP ∷ Op.SALC ∷ []
-
+-- ---- codes: numbers from 0 in document 01's order; those of operations are their numbers
 abbrev pub kinds : List OperandKind
 kinds = K.Imm ∷ K.Reg ∷ K.Seg ∷ K.Mem ∷ []
 

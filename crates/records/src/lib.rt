@@ -6,8 +6,9 @@ ghost use Rattle.mrc_compiler.specs.declared.operations.Operation.the-variants 
 ghost use Rattle.mrc_compiler.specs.declared.encoder.OperandKind.the-variants as K;
 ghost use Rattle.mrc_compiler.specs.declared.encoder.OperandSize.the-variants as S;
 ghost use Rattle.mrc_compiler.specs.declared.encoder.JumpKind.the-variants as J;
+ghost use Rattle.mrc_compiler.specs.Operations.{operations};
 ghost use Rattle.values.specs.Distances.{asI32};
-ghost use Rattle.records.specs.Record.{operations, kinds, sizes, jumpKinds, operandLength, recordLength, byteAt, u32Of, u32At, i32At, spanAt, operandAt, instructionAt, operandKnown, codesKnown};
+ghost use Rattle.records.specs.Record.{kinds, sizes, jumpKinds, operandLength, recordLength, byteAt, u32Of, u32At, i32At, spanAt, operandAt, instructionAt, operandKnown, codesKnown};
 use mrc_compiler::ast::Span;
 use mrc_compiler::encoder::InstructionData;
 use mrc_compiler::encoder::JumpKind;
@@ -15,6 +16,7 @@ use mrc_compiler::encoder::OperandData;
 use mrc_compiler::encoder::OperandKind;
 use mrc_compiler::encoder::OperandSize;
 use mrc_compiler::operations::Operation;
+use mrc_compiler::operations::OptionOperation;
 
 // The places of an operand's fields, from its first byte.
 const KIND: usize = 0;
@@ -51,109 +53,6 @@ const FIRST: usize = 10;
 const SECOND: usize = FIRST + OPERAND_LENGTH;
 
 pub const RECORD_LENGTH: usize = SECOND + OPERAND_LENGTH;
-
-// What each code of an operation stands for.
-const OPERATIONS: [Operation; 99] = [
-    Operation::MOV,
-    Operation::PUSH,
-    Operation::POP,
-    Operation::XCHG,
-    Operation::IN,
-    Operation::OUT,
-    Operation::XLATB,
-    Operation::LEA,
-    Operation::LDS,
-    Operation::LES,
-    Operation::LAHF,
-    Operation::SAHF,
-    Operation::PUSHF,
-    Operation::POPF,
-    Operation::ADD,
-    Operation::ADC,
-    Operation::INC,
-    Operation::AAA,
-    Operation::DAA,
-    Operation::SUB,
-    Operation::SBB,
-    Operation::DEC,
-    Operation::NEG,
-    Operation::CMP,
-    Operation::AAS,
-    Operation::DAS,
-    Operation::MUL,
-    Operation::IMUL,
-    Operation::AAM,
-    Operation::DIV,
-    Operation::IDIV,
-    Operation::AAD,
-    Operation::CBW,
-    Operation::CWD,
-    Operation::NOT,
-    Operation::SHL,
-    Operation::SHR,
-    Operation::SAR,
-    Operation::ROL,
-    Operation::ROR,
-    Operation::RCL,
-    Operation::RCR,
-    Operation::AND,
-    Operation::TEST,
-    Operation::OR,
-    Operation::XOR,
-    Operation::REP,
-    Operation::REPNE,
-    Operation::MOVSB,
-    Operation::MOVSW,
-    Operation::CMPSB,
-    Operation::CMPSW,
-    Operation::SCASB,
-    Operation::SCASW,
-    Operation::LODSB,
-    Operation::LODSW,
-    Operation::STOSB,
-    Operation::STOSW,
-    Operation::CALL,
-    Operation::JMP,
-    Operation::RET,
-    Operation::JE,
-    Operation::JL,
-    Operation::JLE,
-    Operation::JB,
-    Operation::JBE,
-    Operation::JP,
-    Operation::JO,
-    Operation::JS,
-    Operation::JNE,
-    Operation::JNL,
-    Operation::JNLE,
-    Operation::JNB,
-    Operation::JNBE,
-    Operation::JNP,
-    Operation::JNO,
-    Operation::JNS,
-    Operation::LOOP,
-    Operation::LOOPZ,
-    Operation::LOOPNZ,
-    Operation::JCXZ,
-    Operation::INT,
-    Operation::INT1,
-    Operation::INT3,
-    Operation::INTO,
-    Operation::IRET,
-    Operation::CLC,
-    Operation::CMC,
-    Operation::STC,
-    Operation::CLD,
-    Operation::STD,
-    Operation::CLI,
-    Operation::STI,
-    Operation::HLT,
-    Operation::WAIT,
-    Operation::ESC,
-    Operation::LOCK,
-    Operation::NOP,
-    Operation::SALC,
-];
 
 // The byte at a place, 0 past the end.
 pub fn byte_at(bytes: &[u8], at: usize) -> u8
@@ -211,11 +110,9 @@ fn span_at(bytes: &[u8], at: usize) -> Span
 fn operation_of(code: u8) -> Operation
     ensures { λ r. ⌜ r ≡ getD operations code Op.MOV ⌝ }
 {
-    let n = code as usize;
-    if n < 99 {
-        OPERATIONS[n]
-    } else {
-        Operation::MOV
+    match Operation::numbered(code) {
+        OptionOperation::Some(operation) => operation,
+        OptionOperation::None => Operation::MOV,
     }
 }
 

@@ -13,36 +13,32 @@ use borrow.Author.Tests.{ltb-true, ltb-false}
 use Rattle.mrc_compiler.specs.declared.operations.Operation.{Operation}
 use Rattle.mrc_compiler.specs.declared.operations.Operation.the-variants as Op
 use Rattle.mrc_compiler.specs.Choose.{pick}
-use Rattle.mrc_compiler.specs.Operations.{numberOf, sameOperation}
-use Rattle.slots.specs.Slots.{slotOf}
-use Rattle.x86.specs.Forms as F
+use Rattle.mrc_compiler.specs.declared.operations.OptionOperation.{OptionOperation}
+use Rattle.mrc_compiler.specs.declared.operations.OptionOperation.the-variants as N
+use Rattle.mrc_compiler.specs.Operations.{numberOf, operations, sameOperation}
+use Rattle.forms.specs.declared.FormName.{FormName}
+use Rattle.x86.specs.Forms.{Slot, Form, forms}
 use Rattle.x86.specs.Reading.{digit, some, startingWith, fitting, hasSecond, mayNameMemory}
-use Rattle.x86.specs.Rows.{asRead, rows}
+use Rattle.x86.specs.Rows.{Class, Shape, asRead, rows, shapeNumbered}
+use Rattle.x86.specs.Rows as K
 use Rattle.x86.proofs.Rows.{empty}
 use Rattle.x86.proofs.Tests.{same, same-is, upTo, upTo-at}
-use Rattle.shapes.specs.declared.Class.{Class}
-use Rattle.shapes.specs.declared.Class.the-variants as K
-use Rattle.shapes.specs.Shapes.{operationNumbered, shapeNumbered}
-use Rattle.rows.specs.declared.Form.{Form}
-use Rattle.shapes.specs.declared.Found.{Found}
-use Rattle.shapes.specs.declared.Found.the-variants as D
-use Rattle.shapes.specs.declared.Shape.{Shape}
-use Rattle.rows.specs.Rows.{nameOf, digitNumbers, groupOf, operationOf, foundOf, slotsFit, foundAt, exchanges, extensionAt, anyForm, formAt}
+use Rattle.rows.specs.Rows.{nameOf, operationAt, digitsOf, foundOf, slotsFit, foundAt, exchanges, extensionAt, anyForm, formAt}
 
 -- what is said of a first and a second byte: no form, or its operation, its name, whether it has a second byte, its slots as they read
 pub data Said : Type 0 where
   none : Said
-  one : Operation → Form → Bool → F.Slot → F.Slot → Said
+  one : Operation → FormName → Bool → Slot → Slot → Said
 
 -- by the forms
-abbrev pub seen : List F.Form → Said
+abbrev pub seen : List Form → Said
 seen [] = none
 seen (f ∷ fs) = one (f .operation) (nameOf f) (hasSecond (f .extension)) (asRead (f .first)) (asRead (f .second))
 
 -- by the row's shape
-abbrev pub saidBy : Shape → ℕ → ℕ → Found → Said
-saidBy s c x D.Unused = none
-saidBy s c x (D.Is op) = one op (formAt (s .class) c x) (hasSecond (extensionAt (s .class))) (slotOf (s .first)) (slotOf (s .second))
+abbrev pub saidBy : Shape → ℕ → ℕ → OptionOperation → Said
+saidBy s c x N.None = none
+saidBy s c x (N.Some op) = one op (formAt (s .class) c x) (hasSecond (extensionAt (s .class))) (s .first) (s .second)
 
 abbrev pub said : Shape → ℕ → ℕ → Said
 said s c x = saidBy s c x (foundAt s c x)
@@ -61,7 +57,7 @@ abbrev saidEach : Shape → ℕ → Bool → List Said
 saidEach s c true = table 256 (said s c)
 saidEach s c false = said s c 0 ∷ []
 
-abbrev seenEach : List F.Form → Bool → List Said
+abbrev seenEach : List Form → Bool → List Said
 seenEach fs true = table 256 (λ x. seen (fitting x fs))
 seenEach fs false = seen fs ∷ []
 
@@ -81,7 +77,7 @@ saidOf n s c =
       each = saidEach s c (hasSecond (extensionAt (s .class)));
     }
 
-abbrev seenOf : List F.Form → Row
+abbrev seenOf : List Form → Row
 seenOf fs =
     record {
       unused = empty fs;
@@ -102,19 +98,19 @@ seenRow c = seenOf (startingWith c)
 
 -- the test, in parts, since memory goes with its size
 rows-0 : table 64 (λ c. saidRow (c + 0)) ≡ table 64 (λ c. seenRow (c + 0))
-unfolding foundAt startingWith F.forms
+unfolding foundAt startingWith forms operations
 rows-0 = refl
 
 rows-4 : table 64 (λ c. saidRow (c + 64)) ≡ table 64 (λ c. seenRow (c + 64))
-unfolding foundAt startingWith F.forms
+unfolding foundAt startingWith forms operations
 rows-4 = refl
 
 rows-8 : table 64 (λ c. saidRow (c + 128)) ≡ table 64 (λ c. seenRow (c + 128))
-unfolding foundAt startingWith F.forms
+unfolding foundAt startingWith forms operations
 rows-8 = refl
 
 rows-C : table 64 (λ c. saidRow (c + 192)) ≡ table 64 (λ c. seenRow (c + 192))
-unfolding foundAt startingWith F.forms
+unfolding foundAt startingWith forms operations
 rows-C = refl
 
 part : (k c : ℕ) → table 64 (λ i. saidRow (i + k)) ≡ table 64 (λ i. seenRow (i + k)) → k ≤ c → c < k + 64 → saidRow c ≡ seenRow c
@@ -133,14 +129,14 @@ row-agrees c h = go (ltb c 64) (ltb c 128) (ltb c 192) refl refl refl
 
 -- ---- the rules
 -- of a first byte, with the forms that begin with it
-pub record Agrees (c : ℕ) (n : ℕ) (s : Shape) (fs : List F.Form) : Type 0 where
+pub record Agrees (c : ℕ) (n : ℕ) (s : Shape) (fs : List Form) : Type 0 where
   pub unused : eqb n 0 ≡ empty fs
   pub memory : mayNameMemory (anyForm s) ≡ some mayNameMemory fs
   pub second : hasSecond (extensionAt (s .class)) ≡ some (λ f. hasSecond (f .extension)) fs
   pub with-second : (x : ℕ) → x < 256 → some (λ f. hasSecond (f .extension)) fs ≡ true → said s c x ≡ seen (fitting x fs)
   pub without : some (λ f. hasSecond (f .extension)) fs ≡ false → said s c 0 ≡ seen fs
 
-agreed : (c n : ℕ) (s : Shape) (fs : List F.Form) → saidOf n s c ≡ seenOf fs → Agrees c n s fs
+agreed : (c n : ℕ) (s : Shape) (fs : List Form) → saidOf n s c ≡ seenOf fs → Agrees c n s fs
 agreed c n s fs e =
     record {
       unused = ap (λ (r : Row). r .unused) e;
@@ -167,43 +163,44 @@ pub agrees : (c : ℕ) → c < 256 → Agrees c (getD rows c 0) (shapeOf c) (sta
 agrees c h = agreed c (getD rows c 0) (shapeOf c) (startingWith c) (row-agrees c h)
 
 -- ---- XCHG by its first bytes
-abbrev foundOk : ℕ → Found → Bool
-foundOk c D.Unused = true
-foundOk c (D.Is op) = same (sameOperation op Op.XCHG) (exchanges c)
+abbrev foundOk : ℕ → OptionOperation → Bool
+foundOk c N.None = true
+foundOk c (N.Some op) = same (sameOperation op Op.XCHG) (exchanges c)
 
 abbrev classOk : ℕ → Class → Bool
-classOk c K.Unused = true
-classOk c K.Plain = foundOk c (operationOf c)
-classOk c K.PlusRegister = foundOk c (operationOf c)
-classOk c K.PlusSegment = foundOk c (operationOf c)
-classOk c K.ModRm = foundOk c (operationOf c)
-classOk c K.Digit = upTo 8 (λ d. foundOk c (operationNumbered (getD digitNumbers (groupOf c * 8 + d) 0)))
-classOk c K.Second0A = foundOk c (operationOf c)
+classOk c K.unused = true
+classOk c K.plain = foundOk c (operationAt c)
+classOk c K.plus-register = foundOk c (operationAt c)
+classOk c K.plus-segment = foundOk c (operationAt c)
+classOk c K.modrm = foundOk c (operationAt c)
+classOk c K.modrm-digit = upTo 8 (λ d. foundOk c (operationAt (digitsOf c + d)))
+classOk c K.second-0A = foundOk c (operationAt c)
 
 classes-ok : T (upTo 256 (λ c. classOk c (shapeOf c .class)))
-unfolding numberOf
+unfolding numberOf operations
 classes-ok = tt
 
 found-ok : (k : Class) (c x : ℕ) → T (classOk c k) → T (foundOk c (foundOf k c x))
-found-ok K.Unused c x t = tt
-found-ok K.Plain c x t = t
-found-ok K.PlusRegister c x t = t
-found-ok K.PlusSegment c x t = t
-found-ok K.ModRm c x t = t
-found-ok K.Digit c x t = upTo-at 8 (λ d. foundOk c (operationNumbered (getD digitNumbers (groupOf c * 8 + d) 0))) t (digit x) (omega arith)
-found-ok K.Second0A c x t = go (eqb x 0x0A)
+unfolding operations
+found-ok K.unused c x t = tt
+found-ok K.plain c x t = t
+found-ok K.plus-register c x t = t
+found-ok K.plus-segment c x t = t
+found-ok K.modrm c x t = t
+found-ok K.modrm-digit c x t = upTo-at 8 (λ d. foundOk c (operationAt (digitsOf c + d))) t (digit x) (omega arith)
+found-ok K.second-0A c x t = go (eqb x 0x0A)
   where
-    go : (b : Bool) → T (foundOk c (pick b (operationOf c) D.Unused))
+    go : (b : Bool) → T (foundOk c (operationAt (pick b c 304)))
     go true = t
     go false = tt
 
 -- the operation found is XCHG just where the first byte is one of XCHG's
-pub settles : (c x : ℕ) (op : Operation) → c < 256 → foundAt (shapeOf c) c x ≡ D.Is op → sameOperation op Op.XCHG ≡ exchanges c
+pub settles : (c x : ℕ) (op : Operation) → c < 256 → foundAt (shapeOf c) c x ≡ N.Some op → sameOperation op Op.XCHG ≡ exchanges c
 unfolding foundAt
 settles c x op h e =
-    let t : T (foundOk c (D.Is op)) = rw e at (go (slotsFit (shapeOf c) x)) in
+    let t : T (foundOk c (N.Some op)) = rw e at (go (slotsFit (shapeOf c) x)) in
     same-is (sameOperation op Op.XCHG) (exchanges c) t
   where
-    go : (b : Bool) → T (foundOk c (pick b (foundOf (shapeOf c .class) c x) D.Unused))
+    go : (b : Bool) → T (foundOk c (pick b (foundOf (shapeOf c .class) c x) N.None))
     go true = found-ok (shapeOf c .class) c x (upTo-at 256 (λ c. classOk c (shapeOf c .class)) classes-ok c h)
     go false = tt

@@ -8,42 +8,32 @@ use lib.Dec.{eqb, ltb}
 use lib.ListN.{getD}
 use Rattle.mrc_compiler.specs.declared.operations.Operation.{Operation}
 use Rattle.mrc_compiler.specs.declared.operations.Operation.the-variants as Op
+use Rattle.mrc_compiler.specs.declared.operations.OptionOperation.{OptionOperation}
+use Rattle.mrc_compiler.specs.declared.operations.OptionOperation.the-variants as N
 use Rattle.mrc_compiler.specs.Choose.{pick, both, either}
-use Rattle.slots.specs.Slots.{slotOf}
+use Rattle.mrc_compiler.specs.Operations.{operationNumbered}
+use Rattle.forms.specs.declared.FormName.{FormName}
+use Rattle.x86.specs.Forms.{Extension, Form, form}
 use Rattle.x86.specs.Forms as F
 use Rattle.x86.specs.Reading.{digit, about, onlyFits}
-use Rattle.shapes.specs.declared.Class.{Class}
-use Rattle.shapes.specs.declared.Class.the-variants as K
-use Rattle.shapes.specs.declared.Found.{Found}
-use Rattle.shapes.specs.declared.Found.the-variants as D
-use Rattle.shapes.specs.declared.Shape.{Shape}
-use Rattle.shapes.specs.Shapes.{operationNumbered}
-use Rattle.rows.specs.declared.Extension.{Extension}
-use Rattle.rows.specs.declared.Extension.the-variants as E
-use Rattle.rows.specs.declared.Form.{Form}
+use Rattle.x86.specs.Rows.{Class, Shape}
+use Rattle.x86.specs.Rows as K
 
 -- ---- a form as the manual names it
-abbrev pub extensionOf : F.Extension → Extension
-extensionOf F.no = E.None
-extensionOf F.+r = E.PlusRegister
-extensionOf F.+s = E.PlusSegment
-extensionOf F./r = E.ModRm
-extensionOf (F./ n) = E.Digit n
-extensionOf F.0A = E.Second0A
-
-abbrev pub named : ℕ → Extension → Form
+abbrev pub named : ℕ → Extension → FormName
 named c e = record { opcode = c; extension = e }
 
 -- opcode and extension, as the list of forms has them
-abbrev pub nameOf : F.Form → Form
-nameOf f = named (f .opcode) (extensionOf (f .extension))
+abbrev pub nameOf : Form → FormName
+nameOf f = named (f .opcode) (f .extension)
 
 -- where no form reads, none is answered
-abbrev pub noForm : Form
-noForm = named 0 E.None
+abbrev pub noForm : FormName
+noForm = named 0 F.no
 
--- ---- the constant tables
--- the number of each first byte's operation; 99, which is none's, where no form begins or the digit decides
+-- ---- the operation
+-- numbers of operations by lines: a line for each first byte, then eight for the digits of 80, 81 and 83; C6 and C7; D0 to D3; F6 and F7; FE; FF. 99, which is
+-- none's, where no form begins, and for a first byte whose digit decides
 abbrev pub operationNumbers : List ℕ
 operationNumbers =
     14 ∷ 14 ∷ 14 ∷ 14 ∷ 14 ∷ 14 ∷ 1 ∷ 2 ∷ 44 ∷ 44 ∷ 44 ∷ 44 ∷ 44 ∷ 44 ∷ 1 ∷ 99
@@ -61,72 +51,72 @@ operationNumbers =
     ∷ 99 ∷ 99 ∷ 99 ∷ 60 ∷ 9 ∷ 8 ∷ 99 ∷ 99 ∷ 99 ∷ 99 ∷ 99 ∷ 99 ∷ 83 ∷ 81 ∷ 84 ∷ 85
     ∷ 99 ∷ 99 ∷ 99 ∷ 99 ∷ 28 ∷ 31 ∷ 98 ∷ 6 ∷ 99 ∷ 99 ∷ 99 ∷ 99 ∷ 99 ∷ 99 ∷ 99 ∷ 99
     ∷ 79 ∷ 78 ∷ 77 ∷ 80 ∷ 4 ∷ 4 ∷ 5 ∷ 5 ∷ 58 ∷ 59 ∷ 59 ∷ 99 ∷ 4 ∷ 4 ∷ 5 ∷ 5
-    ∷ 96 ∷ 99 ∷ 47 ∷ 46 ∷ 93 ∷ 87 ∷ 99 ∷ 99 ∷ 86 ∷ 88 ∷ 91 ∷ 92 ∷ 89 ∷ 90 ∷ 99 ∷ 99 ∷ []
-
--- the number of each digit's operation, eight a group: 80, 81 and 83; C6 and C7; D0 to D3; F6 and F7; FE; FF
-abbrev pub digitNumbers : List ℕ
-digitNumbers =
-    14 ∷ 44 ∷ 15 ∷ 20 ∷ 42 ∷ 19 ∷ 45 ∷ 23
+    ∷ 96 ∷ 99 ∷ 47 ∷ 46 ∷ 93 ∷ 87 ∷ 99 ∷ 99 ∷ 86 ∷ 88 ∷ 91 ∷ 92 ∷ 89 ∷ 90 ∷ 99 ∷ 99
+    -- digits
+    ∷ 14 ∷ 44 ∷ 15 ∷ 20 ∷ 42 ∷ 19 ∷ 45 ∷ 23
     ∷ 0 ∷ 99 ∷ 99 ∷ 99 ∷ 99 ∷ 99 ∷ 99 ∷ 99
     ∷ 38 ∷ 39 ∷ 40 ∷ 41 ∷ 35 ∷ 36 ∷ 99 ∷ 37
     ∷ 99 ∷ 99 ∷ 34 ∷ 22 ∷ 26 ∷ 27 ∷ 29 ∷ 30
     ∷ 16 ∷ 21 ∷ 99 ∷ 99 ∷ 99 ∷ 99 ∷ 99 ∷ 99
-    ∷ 16 ∷ 21 ∷ 58 ∷ 99 ∷ 59 ∷ 99 ∷ 99 ∷ 99 ∷ []
+    ∷ 16 ∷ 21 ∷ 58 ∷ 99 ∷ 59 ∷ 99 ∷ 99 ∷ 99
+    -- the line of none
+    ∷ 99 ∷ []
 
--- ---- the operation
--- the group of a first byte whose digit decides
-abbrev pub groupOf : ℕ → ℕ
-groupOf c = pick (ltb c 0xC0) 0 (pick (ltb c 0xD0) 1 (pick (ltb c 0xF0) 2 (pick (ltb c 0xFE) 3 (pick (eqb c 0xFE) 4 5))))
+abbrev pub operationAt : ℕ → OptionOperation
+operationAt n = operationNumbered (getD operationNumbers n 0)
 
--- the operation that a first byte has by itself
-abbrev pub operationOf : ℕ → Found
-operationOf c = operationNumbered (getD operationNumbers c 0)
+-- the first line of the digits of a first byte whose digit decides
+abbrev pub digitsOf : ℕ → ℕ
+digitsOf c = pick (ltb c 0xC0) 256 (pick (ltb c 0xD0) 264 (pick (ltb c 0xF0) 272 (pick (ltb c 0xFE) 280 (pick (eqb c 0xFE) 288 296))))
 
--- by first byte c and second byte x
-abbrev pub foundOf : Class → ℕ → ℕ → Found
-foundOf K.Unused c x = D.Unused
-foundOf K.Plain c x = operationOf c
-foundOf K.PlusRegister c x = operationOf c
-foundOf K.PlusSegment c x = operationOf c
-foundOf K.ModRm c x = operationOf c
-foundOf K.Digit c x = operationNumbered (getD digitNumbers (groupOf c * 8 + digit x) 0)
-foundOf K.Second0A c x = pick (eqb x 0x0A) (operationOf c) D.Unused
+-- the line of first byte c and second byte x; 304, the last, where they have no operation
+abbrev pub lineOf : Class → ℕ → ℕ → ℕ
+lineOf K.unused c x = 304
+lineOf K.plain c x = c
+lineOf K.plus-register c x = c
+lineOf K.plus-segment c x = c
+lineOf K.modrm c x = c
+lineOf K.modrm-digit c x = digitsOf c + digit x
+lineOf K.second-0A c x = pick (eqb x 0x0A) c 304
+
+abbrev pub foundOf : Class → ℕ → ℕ → OptionOperation
+foundOf k c x = operationAt (lineOf k c x)
 
 -- do the slots have the second byte x?
 abbrev pub slotsFit : Shape → ℕ → Bool
-slotsFit s x = both (onlyFits (about (slotOf (s .first)) .only) x) (onlyFits (about (slotOf (s .second)) .only) x)
+slotsFit s x = both (onlyFits (about (s .first) .only) x) (onlyFits (about (s .second) .only) x)
 
-unfoldable pub foundAt : Shape → ℕ → ℕ → Found
-foundAt s c x = pick (slotsFit s x) (foundOf (s .class) c x) D.Unused
+unfoldable pub foundAt : Shape → ℕ → ℕ → OptionOperation
+foundAt s c x = pick (slotsFit s x) (foundOf (s .class) c x) N.None
 
 -- 86, 87 and 90 to 97 are XCHG's
 abbrev pub exchanges : ℕ → Bool
 exchanges c = either (eqb (c / 2) 0x43) (eqb (c / 8) 0x12)
 
 -- ---- the form
-abbrev pub extensionAt : Class → F.Extension
-extensionAt K.Unused = F.no
-extensionAt K.Plain = F.no
-extensionAt K.PlusRegister = F.+r
-extensionAt K.PlusSegment = F.+s
-extensionAt K.ModRm = F./r
-extensionAt K.Digit = F./ 0
-extensionAt K.Second0A = F.0A
+abbrev pub extensionAt : Class → Extension
+extensionAt K.unused = F.no
+extensionAt K.plain = F.no
+extensionAt K.plus-register = F.+r
+extensionAt K.plus-segment = F.+s
+extensionAt K.modrm = F./r
+extensionAt K.modrm-digit = F./ 0
+extensionAt K.second-0A = F.0A
 
 -- a form of this shape; the reading does not look at its opcode and digit
-abbrev pub shapeForm : Shape → Operation → F.Form
-shapeForm s op = F.form 0 (extensionAt (s .class)) op (slotOf (s .first)) (slotOf (s .second))
+abbrev pub shapeForm : Shape → Operation → Form
+shapeForm s op = form 0 (extensionAt (s .class)) op (s .first) (s .second)
 
 -- where the operation does not matter either
-abbrev pub anyForm : Shape → F.Form
+abbrev pub anyForm : Shape → Form
 anyForm s = shapeForm s Op.ESC
 
 -- the form that first byte c and second byte x have
-abbrev pub formAt : Class → ℕ → ℕ → Form
-formAt K.Unused c x = noForm
-formAt K.Plain c x = named c E.None
-formAt K.PlusRegister c x = named (c / 8 * 8) E.PlusRegister
-formAt K.PlusSegment c x = named (c % 8) E.PlusSegment
-formAt K.ModRm c x = named c E.ModRm
-formAt K.Digit c x = named c (E.Digit (digit x))
-formAt K.Second0A c x = named c E.Second0A
+abbrev pub formAt : Class → ℕ → ℕ → FormName
+formAt K.unused c x = noForm
+formAt K.plain c x = named c F.no
+formAt K.plus-register c x = named (c / 8 * 8) F.+r
+formAt K.plus-segment c x = named (c % 8) F.+s
+formAt K.modrm c x = named c F./r
+formAt K.modrm-digit c x = named c (F./ (digit x))
+formAt K.second-0A c x = named c F.0A

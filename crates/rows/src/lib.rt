@@ -1,40 +1,21 @@
 // The table of 256 rows: what a first byte says of the form, its operation and its slots.
 ghost use mathlib.Core.Path.{_≡_};
-ghost use Prim.Native.Nat.{_+_, _*_, _<_};
+ghost use Prim.Native.Nat.{_≤_};
 ghost use lib.ListN.{getD};
-ghost use Rattle.x86.specs.Reading.{hasSecond};
-ghost use Rattle.x86.specs.Rows.{rows};
-ghost use Rattle.shapes.specs.Shapes.{operationNumbered};
-ghost use Rattle.rows.specs.Rows.{operationNumbers, digitNumbers, groupOf, foundOf, slotsFit, foundAt, exchanges, extensionAt, formAt};
-use shapes::Class;
-use shapes::Found;
-use shapes::Shape;
-
-// What the manual's opcode column has beside the opcode.
-pub enum Extension {
-    None,
-
-    // 40+rw: the register's number is added to the opcode.
-    PlusRegister,
-
-    // 06 + 8 × segment.
-    PlusSegment,
-
-    // A ModRM byte whose reg field is an operand.
-    ModRm,
-
-    // A ModRM byte whose reg field is this digit.
-    Digit(u8),
-
-    // A second byte, 0A.
-    Second0A,
-}
-
-// A form as the manual names it: the opcode as printed, and its extension.
-pub struct Form {
-    pub opcode: u8,
-    pub extension: Extension,
-}
+ghost use Rattle.mrc_compiler.specs.Choose.{pick, both};
+ghost use Rattle.mrc_compiler.specs.declared.operations.OptionOperation.the-variants as N;
+ghost use Rattle.x86.specs.Reading.{onlyFits, hasSecond};
+ghost use Rattle.x86.specs.Rows.{rows, shapeNumbered};
+ghost use Rattle.rows.specs.Rows.{digitsOf, lineOf, operationAt, foundOf, exchanges, extensionAt, formAt};
+use forms::Class;
+use forms::Extension;
+use forms::FormName;
+use forms::Only;
+use forms::Shape;
+use forms::Slot;
+use mrc_compiler::encoder::OperandSize;
+use mrc_compiler::operations::Operation;
+use mrc_compiler::operations::OptionOperation;
 
 // The table of 256 rows: for each first byte the number of its shape (x86, specs/Rows), 0 where no form begins.
 const ROWS: [u8; 256] = [
@@ -296,8 +277,9 @@ const ROWS: [u8; 256] = [
     42, // FF
 ];
 
-// The number of each first byte's operation; 99, which is none's, where no form begins or the digit decides.
-const OPERATIONS: [u8; 256] = [
+// The numbers of operations by lines: 0 to 255 by first byte, then eight lines for the digits of 80, 81 and 83; C6 and C7; D0 to D3; F6 and F7; FE; FF; then the
+// line of none. 99, which is no operation's, where no form begins, and in the first 256 where the digit decides.
+const OPERATIONS: [u8; 305] = [
     14, // 00 ADD
     14, // 01 ADD
     14, // 02 ADD
@@ -554,10 +536,6 @@ const OPERATIONS: [u8; 256] = [
     90, // FD STD
     99, // FE
     99, // FF
-];
-
-// The number of each digit's operation, eight a group: 80, 81 and 83; C6 and C7; D0 to D3; F6 and F7; FE; FF.
-const DIGITS: [u8; 48] = [
     14, // 80 /0 ADD
     44, // 80 /1 OR
     15, // 80 /2 ADC
@@ -606,6 +584,7 @@ const DIGITS: [u8; 48] = [
     99, // FF /5
     99, // FF /6
     99, // FF /7
+    99, // none
 ];
 
 // The row of a first byte.
@@ -616,92 +595,321 @@ pub fn row_of(c: u8) -> u8
     ROWS[at]
 }
 
-// The group of a first byte whose digit decides.
-fn group_of(c: u8) -> u8
-    ensures { λ r. ⌜ r ≡ groupOf c ⌝ }
+// The shape of a row: what the opcode column has, and the two slots.
+pub fn shape_of(row: u8) -> Shape
+    ensures { λ r. ⌜ r ≡ shapeNumbered row ⌝ }
+{
+    match row {
+        0 => Shape {
+            class: Class::Unused,
+            first: Slot::Nil,
+            second: Slot::Nil,
+        },
+        1 => Shape {
+            class: Class::ModRm,
+            first: Slot::Rm(OperandSize::Byte),
+            second: Slot::Reg(OperandSize::Byte),
+        },
+        2 => Shape {
+            class: Class::ModRm,
+            first: Slot::Rm(OperandSize::Word),
+            second: Slot::Reg(OperandSize::Word),
+        },
+        3 => Shape {
+            class: Class::ModRm,
+            first: Slot::Reg(OperandSize::Byte),
+            second: Slot::Rm(OperandSize::Byte),
+        },
+        4 => Shape {
+            class: Class::ModRm,
+            first: Slot::Reg(OperandSize::Word),
+            second: Slot::Rm(OperandSize::Word),
+        },
+        5 => Shape {
+            class: Class::Plain,
+            first: Slot::Acc(OperandSize::Byte),
+            second: Slot::Ib,
+        },
+        6 => Shape {
+            class: Class::Plain,
+            first: Slot::Acc(OperandSize::Word),
+            second: Slot::Iw,
+        },
+        7 => Shape {
+            class: Class::PlusSegment,
+            first: Slot::Bits34,
+            second: Slot::Nil,
+        },
+        8 => Shape {
+            class: Class::PlusSegment,
+            first: Slot::Bits34NotCs,
+            second: Slot::Nil,
+        },
+        9 => Shape {
+            class: Class::Plain,
+            first: Slot::Nil,
+            second: Slot::Nil,
+        },
+        10 => Shape {
+            class: Class::PlusRegister,
+            first: Slot::Low3(OperandSize::Word),
+            second: Slot::Nil,
+        },
+        11 => Shape {
+            class: Class::Plain,
+            first: Slot::Cb,
+            second: Slot::Nil,
+        },
+        12 => Shape {
+            class: Class::Digit,
+            first: Slot::Rm(OperandSize::Byte),
+            second: Slot::Ib,
+        },
+        13 => Shape {
+            class: Class::Digit,
+            first: Slot::Rm(OperandSize::Word),
+            second: Slot::Iw,
+        },
+        14 => Shape {
+            class: Class::Digit,
+            first: Slot::Rm(OperandSize::Word),
+            second: Slot::IbSx,
+        },
+        15 => Shape {
+            class: Class::ModRm,
+            first: Slot::Rm(OperandSize::Word),
+            second: Slot::Sreg,
+        },
+        16 => Shape {
+            class: Class::ModRm,
+            first: Slot::Reg(OperandSize::Word),
+            second: Slot::Mem,
+        },
+        17 => Shape {
+            class: Class::ModRm,
+            first: Slot::SregNotCs,
+            second: Slot::Rm(OperandSize::Word),
+        },
+        18 => Shape {
+            class: Class::PlusRegister,
+            first: Slot::Acc(OperandSize::Word),
+            second: Slot::Low3(OperandSize::Word),
+        },
+        19 => Shape {
+            class: Class::Plain,
+            first: Slot::Acc(OperandSize::Byte),
+            second: Slot::Moffs(OperandSize::Byte),
+        },
+        20 => Shape {
+            class: Class::Plain,
+            first: Slot::Acc(OperandSize::Word),
+            second: Slot::Moffs(OperandSize::Word),
+        },
+        21 => Shape {
+            class: Class::Plain,
+            first: Slot::Moffs(OperandSize::Byte),
+            second: Slot::Acc(OperandSize::Byte),
+        },
+        22 => Shape {
+            class: Class::Plain,
+            first: Slot::Moffs(OperandSize::Word),
+            second: Slot::Acc(OperandSize::Word),
+        },
+        23 => Shape {
+            class: Class::PlusRegister,
+            first: Slot::Low3(OperandSize::Byte),
+            second: Slot::Ib,
+        },
+        24 => Shape {
+            class: Class::PlusRegister,
+            first: Slot::Low3(OperandSize::Word),
+            second: Slot::Iw,
+        },
+        25 => Shape {
+            class: Class::Plain,
+            first: Slot::Ib,
+            second: Slot::Nil,
+        },
+        26 => Shape {
+            class: Class::Digit,
+            first: Slot::Rm(OperandSize::Byte),
+            second: Slot::One,
+        },
+        27 => Shape {
+            class: Class::Digit,
+            first: Slot::Rm(OperandSize::Word),
+            second: Slot::One,
+        },
+        28 => Shape {
+            class: Class::Digit,
+            first: Slot::Rm(OperandSize::Byte),
+            second: Slot::Cl,
+        },
+        29 => Shape {
+            class: Class::Digit,
+            first: Slot::Rm(OperandSize::Word),
+            second: Slot::Cl,
+        },
+        30 => Shape {
+            class: Class::Second0A,
+            first: Slot::Nil,
+            second: Slot::Nil,
+        },
+        31 => Shape {
+            class: Class::Plain,
+            first: Slot::Xlat,
+            second: Slot::Nil,
+        },
+        32 => Shape {
+            class: Class::Plain,
+            first: Slot::Acc(OperandSize::Word),
+            second: Slot::Ib,
+        },
+        33 => Shape {
+            class: Class::Plain,
+            first: Slot::Ib,
+            second: Slot::Acc(OperandSize::Byte),
+        },
+        34 => Shape {
+            class: Class::Plain,
+            first: Slot::Ib,
+            second: Slot::Acc(OperandSize::Word),
+        },
+        35 => Shape {
+            class: Class::Plain,
+            first: Slot::Cw,
+            second: Slot::Nil,
+        },
+        36 => Shape {
+            class: Class::Plain,
+            first: Slot::Ptr,
+            second: Slot::Nil,
+        },
+        37 => Shape {
+            class: Class::Plain,
+            first: Slot::Acc(OperandSize::Byte),
+            second: Slot::Dx,
+        },
+        38 => Shape {
+            class: Class::Plain,
+            first: Slot::Acc(OperandSize::Word),
+            second: Slot::Dx,
+        },
+        39 => Shape {
+            class: Class::Plain,
+            first: Slot::Dx,
+            second: Slot::Acc(OperandSize::Byte),
+        },
+        40 => Shape {
+            class: Class::Plain,
+            first: Slot::Dx,
+            second: Slot::Acc(OperandSize::Word),
+        },
+        41 => Shape {
+            class: Class::Digit,
+            first: Slot::Rm(OperandSize::Byte),
+            second: Slot::Nil,
+        },
+        42 => Shape {
+            class: Class::Digit,
+            first: Slot::Rm(OperandSize::Word),
+            second: Slot::Nil,
+        },
+        _ => Shape {
+            class: Class::Unused,
+            first: Slot::Nil,
+            second: Slot::Nil,
+        },
+    }
+}
+
+// The operation of a line.
+fn operation_at(line: u16) -> OptionOperation
+    requires { ⌜ line ≤ 304 ⌝ }
+    ensures { λ r. ⌜ r ≡ operationAt line ⌝ }
+{
+    let at = line as usize;
+    Operation::numbered(OPERATIONS[at])
+}
+
+// The first line of the digits of a first byte whose digit decides.
+fn digits_of(c: u8) -> u16
+    ensures { λ r. ⌜ r ≡ digitsOf c ⌝ }
+    ensures last { λ r. ⌜ r ≤ 296 ⌝ }
 {
     if c < 0xC0 {
-        return 0;
+        return 256;
     }
     if c < 0xD0 {
-        return 1;
+        return 264;
     }
     if c < 0xF0 {
-        return 2;
+        return 272;
     }
     if c < 0xFE {
-        return 3;
+        return 280;
     }
-    if c == 0xFE { 4 } else { 5 }
+    if c == 0xFE { 288 } else { 296 }
 }
 
-// The operation that a first byte has by itself.
-fn operation_of(c: u8) -> Found
-    ensures { λ r. ⌜ r ≡ operationNumbered (getD operationNumbers c 0) ⌝ }
-{
-    let at = c as usize;
-    shapes::operation_numbered(OPERATIONS[at])
-}
-
-// The operation that a digit has in a group.
-fn digit_operation(group: u8, digit: u8) -> Found
-    requires { ⌜ (group < 6) × (digit < 8) ⌝ }
-    ensures { λ r. ⌜ r ≡ operationNumbered (getD digitNumbers (group * 8 + digit) 0) ⌝ }
-{
-    let at = group as usize * 8 + digit as usize;
-    shapes::operation_numbered(DIGITS[at])
-}
-
-// The operation of first byte c and second byte x in a row of this class, whatever the slots say.
-fn found_of(class: Class, c: u8, x: u8) -> Found
-    ensures { λ r. ⌜ r ≡ foundOf class c x ⌝ }
+// The line of first byte c and second byte x in a row of this class; 304, the last, where they have no operation.
+fn line_of(class: Class, c: u8, x: u8) -> u16
+    ensures { λ r. ⌜ r ≡ lineOf class c x ⌝ }
+    ensures last { λ r. ⌜ r ≤ 304 ⌝ }
 {
     match class {
-        Class::Unused => Found::Unused,
-        Class::Plain => operation_of(c),
-        Class::PlusRegister => operation_of(c),
-        Class::PlusSegment => operation_of(c),
-        Class::ModRm => operation_of(c),
-        Class::Digit => digit_operation(group_of(c), x / 8 % 8),
+        Class::Unused => 304,
+        Class::Plain => c as u16,
+        Class::PlusRegister => c as u16,
+        Class::PlusSegment => c as u16,
+        Class::ModRm => c as u16,
+        Class::Digit => digits_of(c) + (x / 8 % 8) as u16,
         Class::Second0A => {
             if x == 0x0A {
-                return operation_of(c);
+                return c as u16;
             }
-            Found::Unused
+            304
         }
     }
 }
 
+// Their operation, whatever the slots say.
+fn found_of(class: Class, c: u8, x: u8) -> OptionOperation
+    ensures { λ r. ⌜ r ≡ foundOf class c x ⌝ }
+{
+    operation_at(line_of(class, c, x))
+}
+
 // The form that first byte c and second byte x have in a row of this class.
-pub fn form_at(class: Class, c: u8, x: u8) -> Form
+pub fn form_at(class: Class, c: u8, x: u8) -> FormName
     ensures { λ r. ⌜ r ≡ formAt class c x ⌝ }
 {
     match class {
-        Class::Unused => Form {
+        Class::Unused => FormName {
             opcode: 0,
             extension: Extension::None,
         },
-        Class::Plain => Form {
+        Class::Plain => FormName {
             opcode: c,
             extension: Extension::None,
         },
-        Class::PlusRegister => Form {
+        Class::PlusRegister => FormName {
             opcode: c / 8 * 8,
             extension: Extension::PlusRegister,
         },
-        Class::PlusSegment => Form {
+        Class::PlusSegment => FormName {
             opcode: c % 8,
             extension: Extension::PlusSegment,
         },
-        Class::ModRm => Form {
+        Class::ModRm => FormName {
             opcode: c,
             extension: Extension::ModRm,
         },
-        Class::Digit => Form {
+        Class::Digit => FormName {
             opcode: c,
             extension: Extension::Digit(x / 8 % 8),
         },
-        Class::Second0A => Form {
+        Class::Second0A => FormName {
             opcode: c,
             extension: Extension::Second0A,
         },
@@ -723,27 +931,24 @@ pub fn has_second(class: Class) -> bool
     }
 }
 
-// Do the slots have the second byte x?
-fn slots_fit(shape: Shape, x: u8) -> bool
-    ensures { λ r. ⌜ r ≡ slotsFit shape x ⌝ }
+// Do two slots have the second byte x?
+fn slots_fit(first: Only, second: Only, x: u8) -> bool
+    ensures { λ r. ⌜ r ≡ both (onlyFits first x) (onlyFits second x) ⌝ }
 {
-    let first = shape.first;
-    let second = shape.second;
-    if slots::only_fits(slots::slot_only(first), x) {
-        return slots::only_fits(slots::slot_only(second), x);
+    if slots::only_fits(first, x) {
+        return slots::only_fits(second, x);
     }
     false
 }
 
-// The operation of first byte c and second byte x, where the shape has them.
-pub fn found_at(shape: Shape, c: u8, x: u8) -> Found
-    ensures { λ r. ⌜ r ≡ foundAt shape c x ⌝ }
+// The operation of first byte c and second byte x in a row of this class, where its slots have them.
+pub fn found_at(class: Class, first: Only, second: Only, c: u8, x: u8) -> OptionOperation
+    ensures { λ r. ⌜ r ≡ pick (both (onlyFits first x) (onlyFits second x)) (foundOf class c x) N.None ⌝ }
 {
-    let class = shape.class;
-    if slots_fit(shape, x) {
+    if slots_fit(first, second, x) {
         return found_of(class, c, x);
     }
-    Found::Unused
+    OptionOperation::None
 }
 
 // Is the first byte one of XCHG's?

@@ -7,25 +7,23 @@ use Prim.Native.Nat.{ℕ, zero, suc, _+_, _*_, _-_, _/_, _%_, _<_, _≤_}
 use native.Mathlib.Numerals.{add-one}
 use native.Mathlib.Omega.{arith}
 use lib.Dec.{leb}
-use lib.ListN.{length, take, drop, getD, length-set, length-append, length-drop}
+use lib.ListN.{length, take, drop, getD, length-set, length-append}
 use lib.Seq.{take-suc, take-suc-set}
 use borrow.Author.Tests.{lt-ltb}
 use borrow.Rule.Slice.PartMut.{putMid}
 use Rattle.mrc_compiler.specs.Choose.{pick}
-use Rattle.answers.specs.Answer.{Answer, bytes, refused, answer}
+use Rattle.answers.specs.Answer.{Answer, bytes, refused}
+use Rattle.answers.proofs.Outcomes.{Short}
 use Rattle.emit.specs.declared.Emitted.{Emitted}
 use Rattle.emitter.specs.Run.{emptyRun}
 use Rattle.emit.specs.Emit.{emitted}
-use Rattle.emitter.specs.Run as Run
 use Rattle.loader.specs.declared.Header.{Header}
 use Rattle.loader.specs.declared.LoadError.{LoadError}
 use Rattle.loader.specs.declared.LoadError.the-variants as E
-use Rattle.loader.specs.Show.{insnAt}
-use Rattle.loader.specs.Loading.{offsetBehind, walk, bytesIn, numberOf}
-use Rattle.loader.specs.Steps.{isAll}
-use Rattle.loader.proofs.Laws.{Upto, upto-start, upto-bytes, its, given, accepted, Short, short-by, lent, lent-length, written}
+use Rattle.loader.specs.Loading.{offsetBehind, answerAt, bytesOf, walk, bytesIn, isAll, numberOf}
+use Rattle.loader.proofs.Laws.{Upto, upto-start, ran, step-all, answer-at-short, Front, front-start, front-next, lent}
 use Rattle.show_text.specs.declared.Line.{Line}
-use Rattle.show_text.specs.Text.{hexByte, hexWord, hexBytes, digitFrom, decimal, firstLine, lineOf, recordOf, refusedLine, blank, lineFeed, bytesOf, offsetOf, recordLine, linesOf, mostLine}
+use Rattle.show_text.specs.Text.{hexByte, hexWord, hexBytes, digitFrom, decimal, firstLine, lineOf, recordOf, refusedLine, blank, lineFeed, recordLine, linesOf, mostLine}
 use Rattle.show_text.specs.Steps.{emptyLine, pushed, appended}
 
 -- ---- a line grows at its end
@@ -191,131 +189,71 @@ first-holds line h e = line-holds line (firstLine h) (first-length h) e
 pub refused-holds : (line : Line) (x : LoadError) → line ≡ appended emptyLine (refusedLine x) → Holds line (refusedLine x)
 refused-holds line x e = line-holds line (refusedLine x) (refused-length x) e
 
--- ---- the run of an answer
-run-holds : (bs : List ℕ) → length bs ≤ 7 → (take (Run.appended emptyRun bs .len) (Run.appended emptyRun bs .bytes) ≡ bs) × (Run.appended emptyRun bs .len ≡ length bs) × (length (Run.appended emptyRun bs .bytes) ≡ 7)
-run-holds [] h = (refl, refl, refl)
-run-holds (a ∷ []) h = (refl, refl, refl)
-run-holds (a ∷ b ∷ []) h = (refl, refl, refl)
-run-holds (a ∷ b ∷ c ∷ []) h = (refl, refl, refl)
-run-holds (a ∷ b ∷ c ∷ d ∷ []) h = (refl, refl, refl)
-run-holds (a ∷ b ∷ c ∷ d ∷ e ∷ []) h = (refl, refl, refl)
-run-holds (a ∷ b ∷ c ∷ d ∷ e ∷ f ∷ []) h = (refl, refl, refl)
-run-holds (a ∷ b ∷ c ∷ d ∷ e ∷ f ∷ g ∷ []) h = (refl, refl, refl)
-run-holds (a ∷ b ∷ c ∷ d ∷ e ∷ f ∷ g ∷ x ∷ bs) h = absurd (omega arith)
+-- a record has at most seven bytes
+record-short : (file : List ℕ) (origin k : ℕ) → length (recordLine file origin k) ≤ mostLine
+unfolding recordLine
+record-short file origin k =
+    let at = length (bytesIn (walk file origin k)) in
+    line-length (offsetBehind origin at) (bytesOf (answerAt file origin k at)) (bytes-short (answerAt file origin k at) (answer-at-short file origin k at))
+  where
+    bytes-short : (a : Answer) → Short a → length (bytesOf a) ≤ 7
+    bytes-short (bytes bs) h = h
+    bytes-short (refused e) h = omega arith
 
-run-of-bytes : (d : Emitted) (a : Answer) (cs : List ℕ) → d ≡ emitted emptyRun a → a ≡ bytes cs → d .run ≡ Run.appended emptyRun cs
-run-of-bytes d a cs hd e = rw (hd, e) refl
-
-bytes-of : (a : Answer) (cs : List ℕ) → a ≡ bytes cs → bytesOf a ≡ cs
-bytes-of a cs e = rw e refl
-
-short-of : (a : Answer) (cs : List ℕ) → Short a → a ≡ bytes cs → length cs ≤ 7
-short-of (bytes bs) cs h e = let q : bs ≡ cs = cc in rw (← q) h
-short-of (refused x) cs h e = let z : _≡_ {A = ℕ} 0 1 = cc in absurd (omega arith)
-
-bytes-short : (a : Answer) → Short a → length (bytesOf a) ≤ 7
-bytes-short (bytes bs) h = h
-bytes-short (refused e) h = omega arith
+lines-next : (file : List ℕ) (origin k : ℕ) → linesOf file origin (k + 1) ≡ linesOf file origin k ++ recordLine file origin k
+unfolding linesOf
+lines-next file origin k = rw (add-one k) refl
 
 pub lines-short : (file : List ℕ) (origin n : ℕ) → length (linesOf file origin n) ≤ mostLine * n
-unfolding linesOf recordLine offsetOf
+unfolding linesOf
 lines-short file origin zero = omega arith
 lines-short file origin (suc n) =
-    let at = offsetBehind origin (bytesIn (walk file origin n)) in
-    let a = answer (insnAt file n) at in
-    let l = line-length at (bytesOf a) (bytes-short a (short-by (insnAt file n) at (omega arith) a refl)) in
+    let l = record-short file origin n in
     let before = lines-short file origin n in
-    rw (length-append (linesOf file origin n) (lineOf at (bytesOf a))) (omega arith)
+    rw (length-append (linesOf file origin n) (recordLine file origin n)) (omega arith)
 
 -- ---- the lines of the first k records stand at the front of out
 pub record Lines (file : List ℕ) (origin k at to : ℕ) (out₀ out : List ℕ) : Type 0 where
   pub upto : Upto file origin k at
   pub ends : to ≡ length (linesOf file origin k)
-  pub short : to ≤ mostLine * k
-  pub same : length out ≡ length out₀
-  pub shows : out ≡ linesOf file origin k ++ drop to out₀
+  pub front : Front (linesOf file origin k) out₀ out
 
 pub lines-start : (file : List ℕ) (origin : ℕ) (out : List ℕ) → Lines file origin 0 0 0 out out
 unfolding linesOf
-lines-start file origin out = record { upto = upto-start file origin; ends = refl; short = omega arith; same = refl; shows = refl }
+lines-start file origin out = record { upto = upto-start file origin; ends = refl; front = front-start out }
 
-module _ (file : List ℕ) (origin k at to : ℕ) (out₀ out : List ℕ) (s : Lines file origin k at to out₀ out) (n : ℕ) (t : isAll (walk file origin n) ≡ true) (h : k < n)
-    (d : Emitted) (hd : d ≡ emitted emptyRun (answer (insnAt file k) ((origin + at) % 65536))) where
-  abbrev cs : List ℕ
-  cs = given (its file origin k at (s .upto))
+-- and the next has room
+pub lines-in : (file : List ℕ) (origin k at to : ℕ) (out₀ out : List ℕ) → Lines file origin k at to out₀ out → (n : ℕ) → k < n → mostLine * n ≤ length out₀
+    → to + mostLine ≤ length out
+lines-in file origin k at to out₀ out s n h room =
+    let l = lines-short file origin k in
+    let b = s .front .same in
+    omega (arith, s .ends)
 
-  has-bytes : its file origin k at (s .upto) ≡ bytes cs
-  has-bytes = accepted file origin k at (s .upto) n t h
+module _ (file : List ℕ) (origin k at to : ℕ) (out₀ out : List ℕ) (s : Lines file origin k at to out₀ out) (d : Emitted)
+    (hd : d ≡ emitted emptyRun (answerAt file origin k at)) (line : Line)
+    (hl : line ≡ appended emptyLine (lineOf (offsetBehind origin at) (take (d .run .len) (d .run .bytes)))) where
+  holds-record : Holds line (recordLine file origin k)
+  unfolding recordLine
+  holds-record =
+      let e : lineOf (offsetBehind origin at) (take (d .run .len) (d .run .bytes)) ≡ recordLine file origin k = rw (ran file origin k at d hd .shown, s .upto .ends) refl in
+      line-holds line (recordLine file origin k) (record-short file origin k) (rw e at hl)
 
-  short : length cs ≤ 7
-  short = short-of (its file origin k at (s .upto)) cs (short-by (insnAt file k) ((origin + at) % 65536) (omega arith) (its file origin k at (s .upto)) refl) has-bytes
+  pub line-short : line .len ≤ mostLine
+  line-short = let r = record-short file origin k in let c = holds-record .count in omega arith
 
-  run-is : d .run ≡ Run.appended emptyRun cs
-  run-is = run-of-bytes d (its file origin k at (s .upto)) cs hd has-bytes
-
-  run-length : d .run .len ≡ length cs
-  run-length = rw run-is (run-holds cs short .1)
-
-  pub run-short : d .run .len ≤ 7
-  run-short = rw run-length short
-
-  pub run-whole : length (d .run .bytes) ≡ 7
-  run-whole = rw run-is (run-holds cs short .2)
-
-  module _ (line : Line) (hl : line ≡ appended emptyLine (lineOf ((origin + at) % 65536) (take (d .run .len) (d .run .bytes)))) where
-    line-is : lineOf ((origin + at) % 65536) (take (d .run .len) (d .run .bytes)) ≡ recordLine file origin k
-    unfolding recordLine offsetOf
-    line-is =
-        let shown : take (d .run .len) (d .run .bytes) ≡ cs = rw run-is (run-holds cs short .0) in
-        let given-is : bytesOf (answer (insnAt file k) ((origin + at) % 65536)) ≡ cs = bytes-of (answer (insnAt file k) ((origin + at) % 65536)) cs has-bytes in
-        rw (shown, ← (s .upto .ends), given-is) refl
-
-    holds : Holds line (recordLine file origin k)
-    holds =
-        line-holds line (recordLine file origin k)
-        (rw (← line-is, run-is, run-holds cs short .0) (line-length ((origin + at) % 65536) cs short))
-        (rw (← line-is) hl)
-
-    record-short : length (recordLine file origin k) ≤ mostLine
-    record-short = rw (← line-is, run-is, run-holds cs short .0) (line-length ((origin + at) % 65536) cs short)
-
-    pub line-short : line .len ≤ mostLine
-    line-short = rw (holds .count) record-short
-
-    module _ (room : mostLine * n ≤ length out₀) where
-      pub to-in : to ≤ length out
-      to-in = let a = s .short in let b = s .same in omega arith
-
-      pub line-fits : line .len ≤ length (lent out to)
-      line-fits = let a = s .short in let b = s .same in let c = line-short in let l = lent-length out to in omega arith
-
-      lines-next : linesOf file origin (k + 1) ≡ linesOf file origin k ++ recordLine file origin k
-      unfolding linesOf
-      lines-next = rw (add-one k) refl
-
-      module _ (last : List ℕ) (m : ℕ) (hm : m ≡ line .len) (e : last ≡ take (line .len) (line .bytes) ++ drop (line .len) (lent out to)) where
-        m-is : m ≡ length (recordLine file origin k)
-        m-is = hm ∙ holds .count
-
-        ends-next : to + m ≡ length (linesOf file origin (k + 1))
-        ends-next = rw (lines-next, length-append (linesOf file origin k) (recordLine file origin k), ← (s .ends), m-is) refl
-
-        out-next : putMid to (length out - to) out last ≡ linesOf file origin (k + 1) ++ drop (to + m) out₀
-        out-next =
-            let P = linesOf file origin k in
-            let B = recordLine file origin k in
-            let q : last ≡ B ++ drop (length B) (lent out to) = e ∙ rw (holds .shown, holds .count) refl in
-            let w = written P B out₀ out (length B) (rw (← (s .ends)) (s .shows)) refl in
-            rw (q, lines-next, m-is) (rw (length-append P B, ← (s .ends)) at w)
-
-        pub lines-more : Lines file origin (k + 1) (at + d .run .len) (to + m) out₀ (putMid to (length out - to) out last)
-        lines-more =
-            let a = s .short in
-            let c = line-short in
-            record {
-              upto = rw run-length (upto-bytes file origin k at (s .upto) cs has-bytes);
-              ends = ends-next;
-              short = omega arith;
-              same = rw (out-next, length-append (linesOf file origin (k + 1)), ← ends-next, length-drop (to + m) out₀) (omega arith);
-              shows = out-next;
-            }
+  -- where all n records are accepted, and their lines have room
+  pub lines-more : (n : ℕ) → isAll (walk file origin n) ≡ true → k < n → mostLine * n ≤ length out₀ → (last : List ℕ) (m : ℕ) → m ≡ line .len
+      → last ≡ take (line .len) (line .bytes) ++ drop (line .len) (lent out to)
+      → Lines file origin (k + 1) (at + d .run .len) (to + m) out₀ (putMid to (length out - to) out last)
+  lines-more n t h room last m hm e =
+      let q = rw (holds-record .shown, holds-record .count) at e in
+      let r = lines-in file origin k at to out₀ out s n h room in
+      let b = s .front .same in
+      let c = holds-record .count in
+      let l = line-short in
+      record {
+        upto = rw (ran file origin k at d hd .count) (step-all file origin k at (s .upto) n t h .upto);
+        ends = rw (lines-next file origin k, length-append (linesOf file origin k) (recordLine file origin k)) (omega (arith, s .ends));
+        front = rw (lines-next file origin k) (front-next (linesOf file origin k) (recordLine file origin k) out₀ out last to (s .front) (s .ends) (omega arith) q);
+      }

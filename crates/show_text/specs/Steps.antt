@@ -1,14 +1,10 @@
--- A line as the code holds it, and the steps on the way to the text.
+-- A line as the code holds it.
 -- Definitions only.
 use Prim.Native.Nat.{ℕ, _+_}
 use mathlib.Core.List.{List, [], _∷_}
 use lib.Dec.{ltb}
 use lib.ListN.{set, replicate}
 use Rattle.mrc_compiler.specs.Choose.{pick}
-use Rattle.loader.specs.declared.Loaded.{Loaded}
-use Rattle.loader.specs.declared.Loaded.the-variants as L
-use Rattle.loader.specs.declared.Opened.{Opened}
-use Rattle.loader.specs.declared.Opened.the-variants as O
 use Rattle.show_text.specs.declared.Line.{Line}
 use Rattle.show_text.specs.Text.{mostLine}
 
@@ -22,8 +18,3 @@ pushed line b = pick (ltb (line .len) mostLine) (record { bytes = set (line .byt
 abbrev pub appended : Line → List ℕ → Line
 appended line [] = line
 appended line (b ∷ bs) = appended (pushed line b) bs
-
--- the header of a show that loads, or its refusal
-abbrev pub accepted : Loaded → Opened
-accepted (L.Image h n) = O.Show h
-accepted (L.Refused e) = O.Refused e

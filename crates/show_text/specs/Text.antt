@@ -5,14 +5,13 @@ use mathlib.Core.List.{List, [], _∷_, _++_}
 use lib.Dec.{ltb, leb}
 use lib.ListN.{length, drop}
 use Rattle.mrc_compiler.specs.Choose.{pick}
-use Rattle.answers.specs.Answer.{Answer, bytes, refused, answer}
 use Rattle.loader.specs.declared.Header.{Header}
 use Rattle.loader.specs.declared.LoadError.{LoadError}
 use Rattle.loader.specs.declared.LoadError.the-variants as E
 use Rattle.loader.specs.declared.Loaded.{Loaded}
 use Rattle.loader.specs.declared.Loaded.the-variants as L
-use Rattle.loader.specs.Show.{insnAt, mostRecords}
-use Rattle.loader.specs.Loading.{numberOf, offsetBehind, walk, bytesIn, loaded}
+use Rattle.loader.specs.Show.{mostRecords}
+use Rattle.loader.specs.Loading.{numberOf, offsetBehind, answerAt, bytesOf, walk, bytesIn, loaded}
 use Rattle.show_text.specs.declared.Listed.{Listed}
 use Rattle.show_text.specs.declared.Listed.the-variants as T
 
@@ -71,16 +70,11 @@ refusedLine e =
     ++ (decimal (numberOf e) ++ (blank ∷ recordOf e ++ (lineFeed ∷ [])))
 
 -- ---- the text
-abbrev pub bytesOf : Answer → List ℕ
-bytesOf (bytes bs) = bs
-bytesOf (refused e) = []
-
--- where record k begins
-unfoldable pub offsetOf : List ℕ → ℕ → ℕ → ℕ
-offsetOf file origin k = offsetBehind origin (bytesIn (walk file origin k))
-
+-- record k, behind the bytes of those before it
 unfoldable pub recordLine : List ℕ → ℕ → ℕ → List ℕ
-recordLine file origin k = lineOf (offsetOf file origin k) (bytesOf (answer (insnAt file k) (offsetOf file origin k)))
+recordLine file origin k =
+    let at = length (bytesIn (walk file origin k)) in
+    lineOf (offsetBehind origin at) (bytesOf (answerAt file origin k at))
 
 -- the lines of the first n records
 unfoldable pub linesOf : List ℕ → ℕ → ℕ → List ℕ
@@ -91,8 +85,11 @@ linesOf file origin (suc k) = linesOf file origin k ++ recordLine file origin k
 abbrev pub imageLength : ℕ
 imageLength = 7 * mostRecords
 
+unfoldable pub showText : List ℕ → Header → List ℕ
+showText file h = firstLine h ++ linesOf file (h .origin) (h .count)
+
 abbrev pub textBy : List ℕ → Loaded → List ℕ
-textBy file (L.Image h n) = firstLine h ++ linesOf file (h .origin) (h .count)
+textBy file (L.Image h n) = showText file h
 textBy file (L.Refused e) = refusedLine e
 
 unfoldable pub text : List ℕ → List ℕ

@@ -5,16 +5,13 @@ ghost use mathlib.Core.List.{_++_};
 ghost use Prim.Native.Nat.{_*_, _≤_};
 ghost use lib.ListN.{length, take, drop};
 ghost use Rattle.loader.specs.Show.{recordPlace, mostRecords};
-ghost use Rattle.loader.specs.Loading.{walk, loaded, showLoaded};
-ghost use Rattle.loader.specs.Steps.{isAll};
-ghost use Rattle.show_text.specs.Text.{hexDigit, hexByte, hexWord, hexBytes, digitFrom, decimal, firstLine, lineOf, recordOf, refusedLine, linesOf, imageLength, mostLine, mostText, text, listed, sliceAfter};
-ghost use Rattle.show_text.specs.Steps.{emptyLine, pushed, appended, accepted};
-ghost use Rattle.loader.specs.declared.Opened.the-variants.{Show as Opened·Show};
+ghost use Rattle.loader.specs.Loading.{walk, isAll};
+ghost use Rattle.show_text.specs.Text.{hexDigit, hexByte, hexWord, hexBytes, digitFrom, decimal, firstLine, lineOf, recordOf, refusedLine, linesOf, showText, mostLine, mostText, listed, sliceAfter};
+ghost use Rattle.show_text.specs.Steps.{emptyLine, pushed, appended};
 use emitter::ByteRun;
 use loader::Header;
 use loader::LoadError;
-use loader::Measured;
-use loader::Opened;
+use loader::Loaded;
 
 // A line of text: bytes and how many of them are there.
 pub struct Line {
@@ -205,10 +202,9 @@ fn write_lines(file: &[u8], n: usize, origin: u16, out: &mut [u8]) -> usize
     let mut at = 0;
     let mut to = 0;
     while k < n {
-        let insn = loader::insn_at(file, n, k);
+        let step = loader::run_at(file, n, origin, k, at);
+        let run = step.run;
         let offset = loader::offset_behind(origin, at);
-        let done = encoder::run_of(insn, offset);
-        let run = done.run;
         let line = line_of(offset, run);
         let part = &mut out[to..];
         let m = write_line(line, part);
@@ -222,9 +218,9 @@ fn write_lines(file: &[u8], n: usize, origin: u16, out: &mut [u8]) -> usize
 
 // The first line, and the lines of the records behind it.
 fn write_show(file: &[u8], header: Header, out: &mut [u8]) -> usize
-    requires { ⌜ (accepted (loaded (now file) imageLength) ≡ Opened·Show header) × (mostText ≤ length (now out)) ⌝ }
-    ensures { λ r. ⌜ r ≡ length (text (now (file .entry))) ⌝ }
-    ensures { λ _. ⌜ now (out .exit) ≡ text (now (file .entry)) ++ drop (length (text (now (file .entry)))) (now (out .entry)) ⌝ }
+    requires { ⌜ (length (now file) ≡ recordPlace (header .count)) × (header .count ≤ mostRecords) × (isAll (walk (now file) (header .origin) (header .count)) ≡ true) × (mostText ≤ length (now out)) ⌝ }
+    ensures { λ r. ⌜ r ≡ length (showText (now (file .entry)) header) ⌝ }
+    ensures { λ _. ⌜ now (out .exit) ≡ showText (now (file .entry)) header ++ drop (length (showText (now (file .entry)) header)) (now (out .entry)) ⌝ }
 {
     let n = header.count as usize;
     let origin = header.origin;
@@ -235,35 +231,6 @@ fn write_show(file: &[u8], header: Header, out: &mut [u8]) -> usize
     to + m
 }
 
-// The loader's questions about the records, with an image that holds them all.
-fn accept_show(file: &[u8], header: Header) -> Opened
-    requires { ⌜ (length (now file) ≡ recordPlace (header .count)) × (header .count ≤ mostRecords) ⌝ }
-    ensures { λ r. ⌜ r ≡ accepted (showLoaded (now (file .entry)) header imageLength) ⌝ }
-{
-    let n = header.count as usize;
-    let origin = header.origin;
-    let unknown = loader::first_unknown(file, n);
-    if unknown < n {
-        return Opened::Refused(LoadError::UnknownCode(unknown));
-    }
-    let size = loader::measure(file, n, origin);
-    match size {
-        Measured::Refused(k, e) => Opened::Refused(LoadError::Record(k, e)),
-        Measured::Length(_) => Opened::Show(header),
-    }
-}
-
-// The header of a show that loads, or its refusal.
-fn accept(file: &[u8]) -> Opened
-    ensures { λ r. ⌜ r ≡ accepted (loaded (now (file .entry)) imageLength) ⌝ }
-{
-    let show = loader::open(file);
-    match show {
-        Opened::Refused(e) => Opened::Refused(e),
-        Opened::Show(header) => accept_show(file, header),
-    }
-}
-
 // Writes the text of a show file to the front of out, and answers its length. A slice shorter than MOST_TEXT stays as it was.
 pub fn write_text(file: &[u8], out: &mut [u8]) -> Listed
     ensures { λ r. ⌜ r ≡ listed (now (file .entry)) (length (now (out .entry))) ⌝ }
@@ -272,14 +239,14 @@ pub fn write_text(file: &[u8], out: &mut [u8]) -> Listed
     if out.len() < MOST_TEXT {
         return Listed::TooShort;
     }
-    let show = accept(file);
+    let show = loader::accept(file);
     match show {
-        Opened::Refused(e) => {
+        Loaded::Refused(e) => {
             let line = refused_line(e);
             let n = write_line(line, out);
             Listed::Length(n)
         },
-        Opened::Show(header) => {
+        Loaded::Image(header, _) => {
             let n = write_show(file, header, out);
             Listed::Length(n)
         },

@@ -9,92 +9,16 @@ ghost use Rattle.mrc_compiler.specs.Operations.{sameOperation};
 ghost use Rattle.mrc_compiler.specs.declared.operations.Operation.the-variants.{XCHG};
 ghost use Rattle.x86.specs.declared.Operand.the-variants.{Register, Near};
 ghost use Rattle.x86.specs.Instructions.{defaultSegment, inEffect, base, canonical};
-ghost use Rattle.x86.specs.Reading.{about, addressLength, onlyFits, inMemory, somewhere, wordAt, signExtended, displacementAt, memoryAt, rmAt, at};
-ghost use Rattle.slots.specs.Slots.{slotOf, placeOf, onlyOf, registerIn};
+ghost use Rattle.x86.specs.Reading.{addressLength, onlyFits, inMemory, somewhere, wordAt, signExtended, displacementAt, memoryAt, rmAt, at};
+ghost use Rattle.slots.specs.Slots.{registerIn};
+use forms::Only;
+use forms::Place;
+use forms::Slot;
 use mrc_compiler::ast::Segment;
 use mrc_compiler::encoder::OperandSize;
 use mrc_compiler::operations::Operation;
 use x86::Instruction;
 use x86::Operand;
-
-// Where an operand stands, as x86's table of forms names it.
-pub enum Slot {
-    // The r/m field of ModRM, a register or memory.
-    Rm(OperandSize),
-
-    // The r/m field, memory only.
-    Mem,
-
-    // The reg field of ModRM.
-    Reg(OperandSize),
-
-    // The reg field, a segment register.
-    Sreg,
-
-    // The same, not CS.
-    SregNotCs,
-
-    // AL or AX.
-    Acc(OperandSize),
-
-    // A register in the opcode's low three bits.
-    Low3(OperandSize),
-
-    // A segment register in the opcode's bits 3 and 4.
-    Bits34,
-
-    // The same, not CS.
-    Bits34NotCs,
-    Cl,
-    Dx,
-
-    // The constant 1.
-    One,
-
-    // Memory at the address word behind the opcode.
-    Moffs(OperandSize),
-
-    // Memory at [BX + AL].
-    Xlat,
-
-    // Immediate byte, immediate word, immediate byte sign-extended to a word.
-    Ib,
-    Iw,
-    IbSx,
-
-    // Near targets by a distance byte and a distance word.
-    Cb,
-    Cw,
-
-    // A far target: offset word and segment word.
-    Ptr,
-
-    // No operand.
-    Nil,
-}
-
-// How a slot names memory.
-pub enum Place {
-    Nowhere,
-    ByModRm,
-    ByAddress,
-    ByBxAl,
-}
-
-// Which bytes a slot has.
-pub enum Only {
-    Any,
-
-    // Mode 0 to 2.
-    MemoryOnly,
-
-    // The reg field is 0 to 3.
-    To3,
-    To3NotCs,
-
-    // Bits 3 and 4 of the opcode are not 1.
-    OpcodeNotCs,
-}
 
 // A register's number, where an operand is a register.
 pub enum Number {
@@ -102,125 +26,9 @@ pub enum Number {
     None,
 }
 
-// The width that a slot states.
-pub fn slot_width(slot: Slot) -> OperandSize
-    ensures { λ r. ⌜ r ≡ about (slotOf slot) .width ⌝ }
-{
-    match slot {
-        Slot::Rm(w) => w,
-        Slot::Mem => OperandSize::Unspecified,
-        Slot::Reg(w) => w,
-        Slot::Sreg => OperandSize::Word,
-        Slot::SregNotCs => OperandSize::Word,
-        Slot::Acc(w) => w,
-        Slot::Low3(w) => w,
-        Slot::Bits34 => OperandSize::Word,
-        Slot::Bits34NotCs => OperandSize::Word,
-        Slot::Cl => OperandSize::Unspecified,
-        Slot::Dx => OperandSize::Unspecified,
-        Slot::One => OperandSize::Unspecified,
-        Slot::Moffs(w) => w,
-        Slot::Xlat => OperandSize::Byte,
-        Slot::Ib => OperandSize::Unspecified,
-        Slot::Iw => OperandSize::Unspecified,
-        Slot::IbSx => OperandSize::Unspecified,
-        Slot::Cb => OperandSize::Unspecified,
-        Slot::Cw => OperandSize::Unspecified,
-        Slot::Ptr => OperandSize::Unspecified,
-        Slot::Nil => OperandSize::Unspecified,
-    }
-}
-
-// How a slot names memory.
-pub fn slot_place(slot: Slot) -> Place
-    ensures { λ r. ⌜ placeOf r ≡ about (slotOf slot) .place ⌝ }
-{
-    match slot {
-        Slot::Rm(_) => Place::ByModRm,
-        Slot::Mem => Place::ByModRm,
-        Slot::Reg(_) => Place::Nowhere,
-        Slot::Sreg => Place::Nowhere,
-        Slot::SregNotCs => Place::Nowhere,
-        Slot::Acc(_) => Place::Nowhere,
-        Slot::Low3(_) => Place::Nowhere,
-        Slot::Bits34 => Place::Nowhere,
-        Slot::Bits34NotCs => Place::Nowhere,
-        Slot::Cl => Place::Nowhere,
-        Slot::Dx => Place::Nowhere,
-        Slot::One => Place::Nowhere,
-        Slot::Moffs(_) => Place::ByAddress,
-        Slot::Xlat => Place::ByBxAl,
-        Slot::Ib => Place::Nowhere,
-        Slot::Iw => Place::Nowhere,
-        Slot::IbSx => Place::Nowhere,
-        Slot::Cb => Place::Nowhere,
-        Slot::Cw => Place::Nowhere,
-        Slot::Ptr => Place::Nowhere,
-        Slot::Nil => Place::Nowhere,
-    }
-}
-
-// The immediate bytes that a slot takes.
-pub fn slot_takes(slot: Slot) -> u8
-    ensures { λ r. ⌜ r ≡ about (slotOf slot) .takes ⌝ }
-{
-    match slot {
-        Slot::Rm(_) => 0,
-        Slot::Mem => 0,
-        Slot::Reg(_) => 0,
-        Slot::Sreg => 0,
-        Slot::SregNotCs => 0,
-        Slot::Acc(_) => 0,
-        Slot::Low3(_) => 0,
-        Slot::Bits34 => 0,
-        Slot::Bits34NotCs => 0,
-        Slot::Cl => 0,
-        Slot::Dx => 0,
-        Slot::One => 0,
-        Slot::Moffs(_) => 0,
-        Slot::Xlat => 0,
-        Slot::Ib => 1,
-        Slot::Iw => 2,
-        Slot::IbSx => 1,
-        Slot::Cb => 1,
-        Slot::Cw => 2,
-        Slot::Ptr => 4,
-        Slot::Nil => 0,
-    }
-}
-
-// Which bytes a slot has.
-pub fn slot_only(slot: Slot) -> Only
-    ensures { λ r. ⌜ onlyOf r ≡ about (slotOf slot) .only ⌝ }
-{
-    match slot {
-        Slot::Rm(_) => Only::Any,
-        Slot::Mem => Only::MemoryOnly,
-        Slot::Reg(_) => Only::Any,
-        Slot::Sreg => Only::To3,
-        Slot::SregNotCs => Only::To3NotCs,
-        Slot::Acc(_) => Only::Any,
-        Slot::Low3(_) => Only::Any,
-        Slot::Bits34 => Only::Any,
-        Slot::Bits34NotCs => Only::OpcodeNotCs,
-        Slot::Cl => Only::Any,
-        Slot::Dx => Only::Any,
-        Slot::One => Only::Any,
-        Slot::Moffs(_) => Only::Any,
-        Slot::Xlat => Only::Any,
-        Slot::Ib => Only::Any,
-        Slot::Iw => Only::Any,
-        Slot::IbSx => Only::Any,
-        Slot::Cb => Only::Any,
-        Slot::Cw => Only::Any,
-        Slot::Ptr => Only::Any,
-        Slot::Nil => Only::Any,
-    }
-}
-
 // The bytes of address or displacement that a place takes, with second byte x.
 pub fn address_length(place: Place, x: u8) -> u8
-    ensures { λ r. ⌜ r ≡ addressLength (placeOf place) x ⌝ }
+    ensures { λ r. ⌜ r ≡ addressLength place x ⌝ }
 {
     match place {
         Place::Nowhere => 0,
@@ -232,7 +40,7 @@ pub fn address_length(place: Place, x: u8) -> u8
 
 // Does the second byte x name memory there?
 pub fn in_memory(place: Place, x: u8) -> bool
-    ensures { λ r. ⌜ r ≡ inMemory (placeOf place) x ⌝ }
+    ensures { λ r. ⌜ r ≡ inMemory place x ⌝ }
 {
     match place {
         Place::Nowhere => false,
@@ -244,7 +52,7 @@ pub fn in_memory(place: Place, x: u8) -> bool
 
 // Does some second byte?
 pub fn may_name_memory(place: Place) -> bool
-    ensures { λ r. ⌜ r ≡ somewhere (placeOf place) ⌝ }
+    ensures { λ r. ⌜ r ≡ somewhere place ⌝ }
 {
     match place {
         Place::Nowhere => false,
@@ -256,7 +64,7 @@ pub fn may_name_memory(place: Place) -> bool
 
 // Does a slot have the second byte x?
 pub fn only_fits(only: Only, x: u8) -> bool
-    ensures { λ r. ⌜ r ≡ onlyFits (onlyOf only) x ⌝ }
+    ensures { λ r. ⌜ r ≡ onlyFits only x ⌝ }
 {
     match only {
         Only::Any => true,
@@ -409,10 +217,11 @@ fn near(next: u32, distance: u16) -> Operand
 // second byte, the bytes u behind the displacement.
 pub fn operand_at(slot: Slot, prefix: u8, c: u8, x: u8, next: u32, t: &[u8], u: &[u8]) -> Operand
     requires { ⌜ next < 131072 ⌝ }
-    ensures { λ r. ⌜ r ≡ at (slotOf slot) prefix c x next (now (t .entry)) (now (u .entry)) ⌝ }
+    ensures { λ r. ⌜ r ≡ at slot prefix c x next (now (t .entry)) (now (u .entry)) ⌝ }
 {
     match slot {
         Slot::Rm(_) => rm_at(prefix, x, t),
+        Slot::RmNear => rm_at(prefix, x, t),
         Slot::Mem => rm_at(prefix, x, t),
         Slot::Reg(_) => Operand::Register(x / 8 % 8),
         Slot::Sreg => Operand::SegmentRegister(x / 8 % 8),

@@ -2,32 +2,15 @@
 ghost use mathlib.Core.Path.{_≡_};
 ghost use Rattle.listing.specs.declared.Second.the-variants.{Fixed};
 ghost use Rattle.listing.specs.declared.Tail.the-variants.{None};
-ghost use Rattle.listing.specs.Operands.{outlineOf};
 ghost use Rattle.listing.specs.Starts.{start, bare, sized, immediate, plus, modrm, withRm, arithmeticImmediate, arithmetic, unary, incDec, moveImmediate, moveFrom, moveInto, move, exchange, stack, load, shift, call, jump, single, port, startIn, startOf};
 use groups::Group;
-use listing::Outline;
 use listing::Second;
 use listing::Start;
 use listing::Tail;
 use mrc_compiler::encoder::OperandSize;
 use x86::Instruction;
-use x86::Operand;
-
-// An operand without its values.
-pub fn outline_of(oper: Operand) -> Outline
-    ensures { λ r. ⌜ r ≡ outlineOf oper ⌝ }
-{
-    match oper {
-        Operand::None => Outline { kind: 0, number: 0 },
-        Operand::Register(n) => Outline { kind: 1, number: n },
-        Operand::SegmentRegister(n) => Outline { kind: 2, number: n },
-        Operand::Memory(b, _, _) => Outline { kind: 3, number: b },
-        Operand::Immediate(_) => Outline { kind: 4, number: 0 },
-        Operand::Near(_) => Outline { kind: 5, number: 0 },
-        Operand::Far(_, _) => Outline { kind: 6, number: 0 },
-        Operand::One => Outline { kind: 7, number: 0 },
-    }
-}
+use x86::operands::Outline;
+use x86::operands::outline_of;
 
 // The opcode of a width.
 fn sized_opcode(width: OperandSize, byte: u8, word: u8) -> u8

@@ -10,46 +10,48 @@ use Rattle.mrc_compiler.specs.declared.encoder.OperandSize.the-variants as S
 use Rattle.mrc_compiler.specs.declared.operations.Operation.{Operation}
 use Rattle.mrc_compiler.specs.declared.operations.Operation.the-variants.{MOV, PUSH, POP, XCHG, IN, OUT, XLATB, LEA, LDS, LES, LAHF, SAHF, PUSHF, POPF, ADD, ADC, INC, AAA, DAA, SUB, SBB, DEC, NEG, CMP, AAS, DAS, MUL, IMUL, AAM, DIV, IDIV, AAD, CBW, CWD, NOT, SHL, SHR, SAR, ROL, ROR, RCL, RCR, AND, TEST, OR, XOR, REP, REPNE, MOVSB, MOVSW, CMPSB, CMPSW, SCASB, SCASW, LODSB, LODSW, STOSB, STOSW, CALL, JMP, RET, JE, JL, JLE, JB, JBE, JP, JO, JS, JNE, JNL, JNLE, JNB, JNBE, JNP, JNO, JNS, LOOP, LOOPZ, LOOPNZ, JCXZ, INT, INT3, INTO, IRET, CLC, CMC, STC, CLD, STD, CLI, STI, HLT, LOCK, NOP, SALC}
 use Rattle.mrc_compiler.specs.Values.{eighth}
+-- where an operand stands
+pub use Rattle.forms.specs.declared.Slot.{Slot}
+pub use Rattle.forms.specs.declared.Slot.the-variants.{
+  Rm as rm,  -- r/m field of ModRM: a register or memory
+  RmNear as rm-near,  -- the same, a word that holds a near target
+  Mem as mem,  -- r/m field, memory only
+  Reg as reg,  -- reg field of ModRM
+  Sreg as sreg,  -- reg field, a segment register
+  SregNotCs as sreg-not-cs,  -- the same, not CS
+  Acc as acc,  -- AL or AX
+  Low3 as low3,  -- register in the opcode's low three bits
+  Bits34 as bits34,  -- segment register in the opcode's bits 3 and 4
+  Bits34NotCs as bits34-not-cs,  -- the same, not CS
+  Cl as CL,
+  Dx as DX,
+  One as one,  -- the constant 1
+  Moffs as moffs,  -- memory at the address word behind the opcode
+  Xlat as xlat,  -- memory at [BX + AL]
+  Ib as ib,  -- immediate byte
+  Iw as iw,  -- immediate word
+  IbSx as ib-sx,  -- immediate byte, sign-extended to a word
+  Cb as cb,  -- near target, a distance byte
+  Cw as cw,  -- near target, a distance word
+  Ptr as ptr,  -- far target, offset word and segment word (ptr16:16)
+  Nil as nil,  -- no operand
+}
+-- what the opcode column has beside the opcode
+pub use Rattle.forms.specs.declared.Extension.{Extension}
+pub use Rattle.forms.specs.declared.Extension.the-variants.{
+  None as no,
+  PlusRegister as +r,  -- 40+rw: the register's number is added to the opcode
+  PlusSegment as +s,  -- 06 + 8 × segment
+  ModRm as /r,  -- a ModRM byte whose reg field is an operand
+  Digit as /,  -- a ModRM byte whose reg field is this digit
+  Second0A as 0A,  -- a second byte, 0A
+}
 
 abbrev pub byte : OperandSize
 byte = S.Byte
 
 abbrev pub word : OperandSize
 word = S.Word
-
--- where an operand stands
-pub data Slot : Type 0 where
-  rm : OperandSize → Slot  -- r/m field of ModRM: a register or memory
-  rm-near : Slot  -- the same, a word that holds a near target
-  mem : Slot  -- r/m field, memory only
-  reg : OperandSize → Slot  -- reg field of ModRM
-  sreg : Slot  -- reg field, a segment register
-  sreg-not-cs : Slot  -- the same, not CS
-  acc : OperandSize → Slot  -- AL or AX
-  low3 : OperandSize → Slot  -- register in the opcode's low three bits
-  bits34 : Slot  -- segment register in the opcode's bits 3 and 4
-  bits34-not-cs : Slot  -- the same, not CS
-  CL : Slot
-  DX : Slot
-  one : Slot  -- the constant 1
-  moffs : OperandSize → Slot  -- memory at the address word behind the opcode
-  xlat : Slot  -- memory at [BX + AL]
-  ib : Slot  -- immediate byte
-  iw : Slot  -- immediate word
-  ib-sx : Slot  -- immediate byte, sign-extended to a word
-  cb : Slot  -- near target, a distance byte
-  cw : Slot  -- near target, a distance word
-  ptr : Slot  -- far target, offset word and segment word (ptr16:16)
-  nil : Slot  -- no operand
-
--- what the opcode column has beside the opcode
-pub data Extension : Type 0 where
-  no : Extension
-  +r : Extension  -- 40+rw: the register's number is added to the opcode
-  +s : Extension  -- 06 + 8 × segment
-  /r : Extension  -- a ModRM byte whose reg field is an operand
-  / : ℕ → Extension  -- a ModRM byte whose reg field is this digit
-  0A : Extension  -- a second byte, 0A
 
 pub record Form : Type 0 where
   pub opcode : ℕ

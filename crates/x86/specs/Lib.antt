@@ -3,3 +3,4 @@ pub mod Instructions
 pub mod Reading
 pub mod Listing
 pub mod Rows
+pub mod Operands

@@ -17,6 +17,21 @@ use Rattle.x86.specs.declared.Read.the-variants.{Whole, Nothing, More}
 use Rattle.x86.specs.Instructions.{defaultSegment, inEffect, base, canonical}
 use Rattle.x86.specs.Forms.{byte, word, Slot, rm, rm-near, mem, reg, sreg, sreg-not-cs, acc, low3, bits34, bits34-not-cs, CL, DX, one, moffs, xlat, ib, iw, ib-sx, cb, cw, ptr, nil, Extension, Form, forms}
 use Rattle.x86.specs.Forms as F
+-- what is known of a slot before the bytes behind the opcode are read
+pub use Rattle.forms.specs.declared.About.{About}
+pub use Rattle.forms.specs.Slots.{is, about}
+-- how it names memory
+pub use Rattle.forms.specs.declared.Place.{Place}
+pub use Rattle.forms.specs.declared.Place.the-variants.{Nowhere as nowhere, ByModRm as by-modrm, ByAddress as by-address, ByBxAl as by-bx-al}
+-- which bytes it has
+pub use Rattle.forms.specs.declared.Only.{Only}
+pub use Rattle.forms.specs.declared.Only.the-variants.{
+  Any as any,
+  MemoryOnly as memory-only,  -- mode 0 to 2
+  To3 as to3,  -- the reg field is a segment register's number
+  To3NotCs as to3-not-cs,
+  OpcodeNotCs as opcode-not-cs,  -- bits 3 and 4 of the opcode
+}
 
 -- ---- the fields of a ModRM byte x
 abbrev pub mode : ℕ → ℕ
@@ -31,56 +46,6 @@ low x = x % 8
 -- displacement bytes, by mode and r/m: none in mode 0, but two with r/m 6; one in mode 1; two in mode 2; a register has none
 abbrev pub displacementLength : ℕ → ℕ → ℕ
 displacementLength m l = pick (eqb m 0) (pick (eqb l 6) 2 0) (pick (eqb m 1) 1 (pick (eqb m 2) 2 0))
-
--- ---- what is known of a slot before the bytes behind the opcode are read
--- how it names memory
-pub data Place : Type 0 where
-  nowhere : Place
-  by-modrm : Place
-  by-address : Place
-  by-bx-al : Place
-
--- which bytes it has
-pub data Only : Type 0 where
-  any : Only
-  memory-only : Only  -- mode 0 to 2
-  to3 : Only  -- the reg field is a segment register's number
-  to3-not-cs : Only
-  opcode-not-cs : Only  -- bits 3 and 4 of the opcode
-
--- the width that it states, how it names memory, the immediate bytes that it takes, which bytes it has
-pub record About : Type 0 where
-  pub width : OperandSize
-  pub place : Place
-  pub takes : ℕ
-  pub only : Only
-
-abbrev pub is : OperandSize → Place → ℕ → Only → About
-is w p n o = record { width = w; place = p; takes = n; only = o }
-
-abbrev pub about : Slot → About
-about (rm w) = is w by-modrm 0 any
-about rm-near = is word by-modrm 0 any
-about mem = is S.Unspecified by-modrm 0 memory-only
-about (reg w) = is w nowhere 0 any
-about sreg = is word nowhere 0 to3
-about sreg-not-cs = is word nowhere 0 to3-not-cs
-about (acc w) = is w nowhere 0 any
-about (low3 w) = is w nowhere 0 any
-about bits34 = is word nowhere 0 any
-about bits34-not-cs = is word nowhere 0 opcode-not-cs
-about CL = is S.Unspecified nowhere 0 any
-about DX = is S.Unspecified nowhere 0 any
-about one = is S.Unspecified nowhere 0 any
-about (moffs w) = is w by-address 0 any
-about xlat = is byte by-bx-al 0 any
-about ib = is S.Unspecified nowhere 1 any
-about iw = is S.Unspecified nowhere 2 any
-about ib-sx = is S.Unspecified nowhere 1 any
-about cb = is S.Unspecified nowhere 1 any
-about cw = is S.Unspecified nowhere 2 any
-about ptr = is S.Unspecified nowhere 4 any
-about nil = is S.Unspecified nowhere 0 any
 
 -- a form's width: what its first slot states, or else its second
 abbrev pub widthOf : Form → OperandSize

@@ -6,24 +6,18 @@ use Prim.Native.Nat.{ℕ}
 use lib.ListN.{getD}
 use Rattle.x86.specs.Forms.{byte, word, Slot, rm, rm-near, mem, reg, sreg, sreg-not-cs, acc, low3, bits34, bits34-not-cs, CL, DX, one, moffs, xlat, ib, iw, ib-sx, cb, cw, ptr, nil, Extension, Form}
 use Rattle.x86.specs.Forms as F
-
+pub use Rattle.forms.specs.declared.Shape.{Shape}
 -- an extension, whatever its digit
-pub data Class : Type 0 where
-  unused : Class
-  plain : Class
-  plus-register : Class
-  plus-segment : Class
-  modrm : Class
-  modrm-digit : Class
-  second-0A : Class
+pub use Rattle.forms.specs.declared.Class.{Class}
+pub use Rattle.forms.specs.declared.Class.the-variants.{Unused as unused, Plain as plain, PlusRegister as plus-register, PlusSegment as plus-segment, ModRm as modrm, Digit as modrm-digit, Second0A as second-0A}
 
-abbrev pub class : Extension → Class
-class F.no = plain
-class F.+r = plus-register
-class F.+s = plus-segment
-class F./r = modrm
-class (F./ n) = modrm-digit
-class F.0A = second-0A
+abbrev pub classOf : Extension → Class
+classOf F.no = plain
+classOf F.+r = plus-register
+classOf F.+s = plus-segment
+classOf F./r = modrm
+classOf (F./ n) = modrm-digit
+classOf F.0A = second-0A
 
 -- a slot as the reader sees it: a near target in r/m reads as a word
 abbrev pub asRead : Slot → Slot
@@ -50,16 +44,11 @@ asRead cw = cw
 asRead ptr = ptr
 asRead nil = nil
 
-pub record Shape : Type 0 where
-  pub extension : Class
-  pub first : Slot
-  pub second : Slot
-
 abbrev pub shape : Class → Slot → Slot → Shape
-shape e a b = record { extension = e; first = a; second = b }
+shape k a b = record { class = k; first = a; second = b }
 
 abbrev pub shapeOf : Form → Shape
-shapeOf f = shape (class (f .extension)) (asRead (f .first)) (asRead (f .second))
+shapeOf f = shape (classOf (f .extension)) (asRead (f .first)) (asRead (f .second))
 
 -- numbered from 0, which is no form's
 abbrev pub shapes : List Shape
@@ -146,6 +135,9 @@ rows =
     ∷ 9 ∷ 0 ∷ 9 ∷ 9 ∷ 9 ∷ 9 ∷ 41 ∷ 42 ∷ 9 ∷ 9 ∷ 9 ∷ 9 ∷ 9 ∷ 9 ∷ 41 ∷ 42
     ∷ []
 
+abbrev pub shapeNumbered : ℕ → Shape
+shapeNumbered n = getD shapes n (shape unused nil nil)
+
 -- the shape of first byte c
 unfoldable pub shapeAt : ℕ → Shape
-shapeAt c = getD shapes (getD rows c 0) (shape unused nil nil)
+shapeAt c = shapeNumbered (getD rows c 0)

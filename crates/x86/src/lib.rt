@@ -6,6 +6,8 @@ use mrc_compiler::ast::Segment;
 use mrc_compiler::encoder::OperandSize;
 use mrc_compiler::operations::Operation;
 
+pub mod operands;
+
 // A used operand.
 pub enum Operand {
     None,

@@ -5,8 +5,8 @@ use Rattle.encoder.proofs.run_of_plan.Tie as tie
 enum-known-plan : tie.Need-enum-known-plan
 enum-known-plan c = search needs
 
-emit-codes-requires : tie.Need-emit-codes-requires
-emit-codes-requires c κs = search needs
+codes-run-requires : tie.Need-codes-run-requires
+codes-run-requires c κs = search needs
 
 enum-known-plan-2 : tie.Need-enum-known-plan-2
 enum-known-plan-2 c = search needs
@@ -18,7 +18,7 @@ refused-requires : tie.Need-refused-requires
 refused-requires c κs = search needs
 
 returns : tie.Need-returns
-returns c = rw (c .before .before .plan .given .1) (c .emit-codes .ensures)
+returns c = rw (c .before .before .plan .given .1) (c .codes-run .ensures)
 
 returns-2 : tie.Need-returns-2
 returns-2 c = rw (c .before .before .before .plan2 .given .1) (rw (c .before .error-of .ensures) at (c .refused .ensures))
@@ -28,7 +28,7 @@ run-of-plan-spec =
     tie.close
     (tie.spec
     enum-known-plan
-    emit-codes-requires
+    codes-run-requires
     enum-known-plan-2
     error-of-requires
     refused-requires

@@ -1,38 +1,21 @@
-use Rattle.plans.specs.Plans.{planBy}
-use Rattle.plans.specs.Blocks.{shiftPlan}
+use mir.Syntax.{w32}
+use mir.ValLaws.{toZ-ofZ}
+use mathlib.Core.Path.{sym, _∙_}
 use borrow.Author.Needs.{needs}
 use Rattle.group_arithmetic.proofs.encode_group_rol_ror_rcl_rcr_shl_sal_shr_sar.Statement.{statement}
 use Rattle.group_arithmetic.proofs.encode_group_rol_ror_rcl_rcr_shl_sal_shr_sar.Tie as tie
 
-element-copy-out-dst : tie.Need-element-copy-out-dst
-element-copy-out-dst c = search needs
-
-enum-told : tie.Need-enum-told
-enum-told c = search needs
-
-enum-told-2 : tie.Need-enum-told-2
-enum-told-2 c = search needs
-
-shift-byte-requires : tie.Need-shift-byte-requires
-shift-byte-requires c κs = search needs
-
-enum-told-3 : tie.Need-enum-told-3
-enum-told-3 c = search needs
-
-shift-word-requires : tie.Need-shift-word-requires
-shift-word-requires c κs = search needs
-
-returns : tie.Need-returns
-unfolding planBy shiftPlan
-returns c = rw (c .enum-told .given .1)
-
-returns-2 : tie.Need-returns-2
-unfolding planBy shiftPlan
-returns-2 c = rw (c .before .enum-told2 .given .1) (c .shift-byte .ensures)
-
-returns-3 : tie.Need-returns-3
-unfolding planBy shiftPlan
-returns-3 c = rw (c .before .enum-told3 .given .1) (c .shift-word .ensures)
-
 pub encode-group-rol-ror-rcl-rcr-shl-sal-shr-sar-spec : {M : Type 1} → statement M
-encode-group-rol-ror-rcl-rcr-shl-sal-shr-sar-spec = tie.close (tie.spec element-copy-out-dst enum-told enum-told-2 shift-byte-requires enum-told-3 shift-word-requires returns returns-2 returns-3)
+encode-group-rol-ror-rcl-rcr-shl-sal-shr-sar-spec =
+    tie.close
+    (tie.spec
+    (λ c κs. search needs)
+    (λ c. search needs)
+    (λ c κs. search needs)
+    (λ c. search needs)
+    (λ c κs. search needs)
+    (λ c κs. search needs)
+    (λ c κs. search needs)
+    (λ c κs. search needs)
+    (λ c. rw (sym (c .before .before .before .stated-size .ensures) ∙ c .before .enum-told .given .1) (c .plain .ensures))
+    (λ c. rw (c .rm-form .ensures, c .before .shift-by .ensures, c .before .before .is-cl .ensures, rw (toZ-ofZ w32 (c .before .before .before .before .before .before .before .before .before .args .src .imm) (record { sfits = c .before .before .before .before .struct-told .given .1 .1 .1 .1 .0 .1 })) at (c .before .before .before .value-is-one .ensures), sym (c .before .before .before .before .before .before .before .before .stated-size .ensures) ∙ c .before .before .before .before .before .before .size .given .1)))

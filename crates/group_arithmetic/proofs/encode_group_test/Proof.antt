@@ -1,56 +1,20 @@
-use Rattle.plans.specs.Plans.{planBy}
-use Rattle.plans.specs.Blocks.{testPlan}
 use mathlib.Core.Path.{sym, _∙_}
 use borrow.Author.Needs.{needs}
-use Rattle.answers.specs.Records.{dst, src}
-use Rattle.plans.proofs.Laws.{told}
 use Rattle.group_arithmetic.proofs.encode_group_test.Statement.{statement}
 use Rattle.group_arithmetic.proofs.encode_group_test.Tie as tie
-
-element-copy-out-dst : tie.Need-element-copy-out-dst
-element-copy-out-dst c = search needs
-
-element-copy-out-src : tie.Need-element-copy-out-src
-element-copy-out-src c = search needs
-
-common-operand-size-requires : tie.Need-common-operand-size-requires
-common-operand-size-requires c κs = search needs
-
-enum-told : tie.Need-enum-told
-enum-told c = search needs
-
-test-byte-requires : tie.Need-test-byte-requires
-test-byte-requires c κs = search needs
-
-enum-told-2 : tie.Need-enum-told-2
-enum-told-2 c = search needs
-
-test-word-requires : tie.Need-test-word-requires
-test-word-requires c κs = search needs
-
-enum-told-3 : tie.Need-enum-told-3
-enum-told-3 c = search needs
-
-enum-told-4 : tie.Need-enum-told-4
-enum-told-4 c = search needs
-
-returns : tie.Need-returns
-unfolding planBy testPlan
-returns c = let h = rw (sym (c .before .before .before .common-operand-size .ensures) ∙ c .before .enum-told .given .1) at (told (dst (c .before .before .before .before .before .before .args .t2) .size) (src (c .before .before .before .before .before .before .args .t2) .size)) in rw (h .0, h .1, h .2) (c .test-byte .ensures)
-
-returns-2 : tie.Need-returns-2
-unfolding planBy testPlan
-returns-2 c = let h = rw (sym (c .before .before .before .common-operand-size .ensures) ∙ c .before .enum-told2 .given .1) at (told (dst (c .before .before .before .before .before .before .args .t2) .size) (src (c .before .before .before .before .before .before .args .t2) .size)) in rw (h .0, h .1, h .2) (c .test-word .ensures)
-
-returns-3 : tie.Need-returns-3
-unfolding planBy testPlan
-returns-3 c = let h = rw (sym (c .before .before .common-operand-size .ensures) ∙ c .enum-told3 .given .1) at (told (dst (c .before .before .before .before .before .args .t2) .size) (src (c .before .before .before .before .before .args .t2) .size)) in rw h
-
-returns-4 : tie.Need-returns-4
-unfolding planBy testPlan
-returns-4 c = let h = rw (sym (c .before .before .common-operand-size .ensures) ∙ c .enum-told4 .given .1) at (told (dst (c .before .before .before .before .before .args .t2) .size) (src (c .before .before .before .before .before .args .t2) .size)) in rw (h .0, h .1)
 
 pub encode-group-test-spec : {M : Type 1} → statement M
 encode-group-test-spec =
     tie.close
-    (tie.spec element-copy-out-dst element-copy-out-src common-operand-size-requires enum-told test-byte-requires enum-told-2 test-word-requires enum-told-3 enum-told-4 returns returns-2 returns-3 returns-4)
+    (tie.spec
+    (λ c κs. search needs)
+    (λ c. search needs)
+    (λ c κs. search needs)
+    (λ c κs. search needs)
+    (λ c. search needs)
+    (λ c κs. search needs)
+    (λ c. search needs)
+    (λ c κs. search needs)
+    (λ c. rw (c .test-form .ensures, c .before .is-al .ensures, sym (c .before .before .before .before .before .common-operand-size .ensures) ∙ c .before .before .before .size .given .1))
+    (λ c. rw (sym (c .before .before .before .common-operand-size .ensures) ∙ c .before .enum-told .given .1) (c .plain .ensures))
+    (λ c. rw (sym (c .before .before .before .common-operand-size .ensures) ∙ c .before .enum-told2 .given .1) (c .plain2 .ensures)))

@@ -7,9 +7,6 @@ use Rattle.lister.proofs.Runs.{run-short, key-yes, key-no}
 use Rattle.lister.proofs.candidate_key.Statement.{statement}
 use Rattle.lister.proofs.candidate_key.Tie as tie
 
-candidate-run-requires : tie.Need-candidate-run-requires
-candidate-run-requires c κs = search needs
-
 array-share-prefix-bytes : tie.Need-array-share-prefix-bytes
 array-share-prefix-bytes c =
     let e : length (c .before .candidate-run .result .bytes) ≡ 7 = search needs in
@@ -20,15 +17,6 @@ slice-aggregate-read-at c =
     let e : length (c .before .before .candidate-run .result .bytes) ≡ 7 = search needs in
     let h = run-short (c .before .before .before .args .offset) (c .before .before .before .args .insn) (c .before .before .before .args .i) (c .before .before .candidate-run .result) (c .before .before .candidate-run .ensures) in
     sym (length-take-le (c .before .before .candidate-run .result .len) (c .before .before .candidate-run .result .bytes) (omega arith))
-
-read-at-requires : tie.Need-read-at-requires
-read-at-requires c κs = search needs
-
-is-whole-requires : tie.Need-is-whole-requires
-is-whole-requires c κs = search needs
-
-key-of-requires : tie.Need-key-of-requires
-key-of-requires c κs = run-short (c .before .before .before .before .before .before .args .offset) (c .before .before .before .before .before .before .args .insn) (c .before .before .before .before .before .before .args .i) (c .before .before .before .before .before .candidate-run .result) (c .before .before .before .before .before .candidate-run .ensures)
 
 returns : tie.Need-returns
 returns c =
@@ -41,4 +29,9 @@ returns-2 c =
     (c .before .before .read-at .ensures) (c .before .is-whole .ensures) (c .if1 .left)
 
 pub candidate-key-spec : {M : Type 1} → statement M
-candidate-key-spec = tie.close (tie.spec candidate-run-requires array-share-prefix-bytes slice-aggregate-read-at read-at-requires is-whole-requires key-of-requires returns returns-2)
+candidate-key-spec =
+    tie.close
+    (tie.spec
+    (λ c κs. search needs) array-share-prefix-bytes slice-aggregate-read-at (λ c κs. search needs) (λ c κs. search needs)
+    (λ c κs. run-short (c .before .before .before .before .before .before .args .offset) (c .before .before .before .before .before .before .args .insn) (c .before .before .before .before .before .before .args .i) (c .before .before .before .before .before .candidate-run .result) (c .before .before .before .before .before .candidate-run .ensures))
+    returns returns-2)

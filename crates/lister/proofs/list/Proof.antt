@@ -4,15 +4,6 @@ use Rattle.lister.proofs.Accepted.{is-refused, short, too-short, listed
 use Rattle.lister.proofs.list.Statement.{statement}
 use Rattle.lister.proofs.list.Tie as tie
 
-run-of-requires : tie.Need-run-of-requires
-run-of-requires c κs = search needs
-
-enum-known-refusal : tie.Need-enum-known-refusal
-enum-known-refusal c = search needs
-
-enum-told : tie.Need-enum-told
-enum-told c = search needs
-
 returns : tie.Need-returns
 returns c =
     let at = c .before .before .before .before .before .before .before in
@@ -29,9 +20,6 @@ returns-2 c =
     let q = is-refused (at .args .insn) (at .args .offset) (at .fits .offset .fits) _ (c .before .before .before .before .run-of .ensures) _ (c .before .refusal .given .1) in
     (rw q, rw q)
 
-same-length : tie.Need-same-length
-same-length c = search needs
-
 returns-3 : tie.Need-returns-3
 returns-3 c =
     let at = c .before .before .before .before .before .before .before .before .before .before .before in
@@ -39,4 +27,4 @@ returns-3 c =
     (c .before .before .list-run .ensures .0) (c .before .before .list-run .ensures .1)
 
 pub list-spec : {M : Type 1} → statement M
-list-spec = tie.close (tie.spec run-of-requires enum-known-refusal enum-told returns list-run-requires returns-2 same-length returns-3)
+list-spec = tie.close (tie.spec (λ c κs. search needs) (λ c. search needs) (λ c. search needs) returns list-run-requires returns-2 (λ c. search needs) returns-3)

@@ -18,24 +18,6 @@ slice-aggregate-read-at c =
     let e : length (c .before .before .before .args .run .bytes) ≡ 7 = search needs in
     sym (length-take-le (c .before .before .before .args .run .len) (c .before .before .before .args .run .bytes) (omega (arith, c .before .before .before .pre .0)))
 
-read-at-requires : tie.Need-read-at-requires
-read-at-requires c κs = search needs
-
-enum-known-insn : tie.Need-enum-known-insn
-enum-known-insn c = search needs
-
-list-instruction-requires : tie.Need-list-instruction-requires
-list-instruction-requires c κs = c .before .before .before .before .before .before .before .before .pre .1
-
-enum-told : tie.Need-enum-told
-enum-told c = search needs
-
-enum-told-2 : tie.Need-enum-told-2
-enum-told-2 c = search needs
-
-same-length : tie.Need-same-length
-same-length c = search needs
-
 returns : tie.Need-returns
 returns c =
     let a = c .before .before .before .before .before .before .before .before .before .before .before .args in
@@ -52,4 +34,9 @@ returns-3 c =
     read-more (a .offset) (take (a .run .len) (a .run .bytes)) (now (a .out)) (c .before .before .read-at .result) (c .before .before .read-at .ensures) (c .enum-told2 .given .1)
 
 pub list-run-spec : {M : Type 1} → statement M
-list-run-spec = tie.close (tie.spec array-share-prefix-bytes slice-aggregate-read-at read-at-requires enum-known-insn list-instruction-requires enum-told enum-told-2 same-length returns returns-2 returns-3)
+list-run-spec =
+    tie.close
+    (tie.spec
+    array-share-prefix-bytes slice-aggregate-read-at (λ c κs. search needs) (λ c. search needs)
+    (λ c κs. c .before .before .before .before .before .before .before .before .pre .1)
+    (λ c. search needs) (λ c. search needs) (λ c. search needs) returns returns-2 returns-3)

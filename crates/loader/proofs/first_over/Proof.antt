@@ -1,4 +1,4 @@
-use Rattle.loader.proofs.Laws.{from-start, from-yes, from-no, from-end, Upto, upto-start, upto-next, not-refused, over-yes, over-no}
+use Rattle.loader.proofs.Laws.{from-start, from-yes, from-no, from-end, ran, Upto, upto-start, step-all, over-yes, over-no}
 use Rattle.loader.specs.Loading.{firstFrom, firstOver, isOver}
 use borrow.Author.Needs.{needs}
 use denote.Ref.{now}
@@ -19,68 +19,31 @@ loop-holds c =
     let a = c .before .args in
     (search needs, search needs, upto-start (now (a .file)) (a .origin), from-start (isOver (now (a .file)) (a .origin) (a .size)) (a .n))
 
-insn-at-requires : tie.Need-insn-at-requires Inv-loop μ-loop
-insn-at-requires c κs = search needs
-
-offset-behind-requires : tie.Need-offset-behind-requires Inv-loop μ-loop
-offset-behind-requires c κs = search needs
-
-encoded-length-requires : tie.Need-encoded-length-requires Inv-loop μ-loop
-encoded-length-requires c κs = search needs
-
-enum-known-length : tie.Need-enum-known-length Inv-loop μ-loop
-enum-known-length c = search needs
-
-enum-told : tie.Need-enum-told Inv-loop μ-loop
-enum-told c = search needs
-
 returns : tie.Need-returns Inv-loop μ-loop
 returns c =
-    let f = now (c .before .before .before .before .before .before .before .before .args .file) in
-    let o = c .before .before .before .before .before .before .before .before .args .origin in
-    let at = c .before .before .before .before .before .before .loop in
-    let r = c .before .before .encoded-length .result in
-    let q = rw (c .before .before .before .before .insn-at .ensures, c .before .before .before .offset-behind .ensures) at (c .before .before .encoded-length .ensures) in
-    absurd (not-refused f o (at .k) (at .at) (at .inv .2) (c .before .before .before .before .before .before .before .before .args .n) (c .before .before .before .before .before .before .before .before .pre .2) (c .before .before .before .before .before .loop-test .taken) r q _ (c .enum-told .given .1))
-
-sub-if1 : tie.Need-sub-if1 Inv-loop μ-loop
-sub-if1 c = search needs
-
-returns-2 : tie.Need-returns-2 Inv-loop μ-loop
-returns-2 c =
-    let f = now (c .before .before .before .before .before .before .before .before .before .before .args .file) in
-    let o = c .before .before .before .before .before .before .before .before .before .before .args .origin in
-    let at = c .before .before .before .before .before .before .before .before .loop in
-    let r = c .before .before .before .before .encoded-length .result in
-    let q = rw (c .before .before .before .before .before .before .insn-at .ensures, c .before .before .before .before .before .offset-behind .ensures) at (c .before .before .before .before .encoded-length .ensures) in
-    let l = c .before .before .length .given .1 in
-    from-yes (isOver f o (c .before .before .before .before .before .before .before .before .before .before .args .size)) _ _ (c .before .before .before .before .before .before .before .loop-test .taken) (at .inv .3) (over-yes f o (at .k) (at .at) (at .inv .2) (c .before .before .before .before .before .before .before .before .before .before .args .n) (c .before .before .before .before .before .before .before .before .before .before .pre .2) (c .before .before .before .before .before .before .before .loop-test .taken) (c .before .before .before .before .before .before .before .before .before .before .args .size) _ r q l (omega arith))
-
-add-at : tie.Need-add-at Inv-loop μ-loop
-add-at c = omega arith
-
-add-k : tie.Need-add-k Inv-loop μ-loop
-add-k c = search needs
-
-loop-less : tie.Need-loop-less Inv-loop μ-loop
-loop-less c = search needs
+    let b = c .before .before .before .before .before .before in
+    let f = now (b .args .file) in
+    let o = c .before .before .before .before .loop in
+    let d = c .before .before .run-at in
+    let taken = c .before .before .before .loop-test .taken in
+    let r = ran f (b .args .origin) (o .k) (o .at) (d .result) (d .ensures) in
+    let s = step-all f (b .args .origin) (o .k) (o .at) (o .inv .2) (b .args .n) (b .pre .2) taken in
+    from-yes (isOver f (b .args .origin) (b .args .size)) _ _ taken (o .inv .3) (over-yes f (b .args .origin) (b .args .size) (o .k) _ (s .upto .ends) (omega arith))
 
 loop-again : tie.Need-loop-again Inv-loop μ-loop
 loop-again c =
-    let f = now (c .before .before .before .before .before .before .before .before .before .before .args .file) in
-    let o = c .before .before .before .before .before .before .before .before .before .before .args .origin in
-    let at = c .before .before .before .before .before .before .before .before .loop in
-    let r = c .before .before .before .before .encoded-length .result in
-    let q = rw (c .before .before .before .before .before .before .insn-at .ensures, c .before .before .before .before .before .offset-behind .ensures) at (c .before .before .before .before .encoded-length .ensures) in
-    let l = c .before .before .length .given .1 in (
+    let b = c .before .before .before .before .before .before in
+    let f = now (b .args .file) in
+    let o = c .before .before .before .before .loop in
+    let d = c .before .before .run-at in
+    let taken = c .before .before .before .loop-test .taken in
+    let r = ran f (b .args .origin) (o .k) (o .at) (d .result) (d .ensures) in
+    let s = step-all f (b .args .origin) (o .k) (o .at) (o .inv .2) (b .args .n) (b .pre .2) taken in (
       search needs,
       omega arith,
-      upto-next f o (at .k) (at .at) (at .inv .2) r _ q l,
-      from-no (isOver f o (c .before .before .before .before .before .before .before .before .before .before .args .size)) _ _ (c .before .before .before .before .before .before .before .loop-test .taken) (at .inv .3) (over-no f o (at .k) (at .at) (at .inv .2) (c .before .before .before .before .before .before .before .before .before .before .args .n) (c .before .before .before .before .before .before .before .before .before .before .pre .2) (c .before .before .before .before .before .before .before .loop-test .taken) (c .before .before .before .before .before .before .before .before .before .before .args .size) _ r q l (omega arith)),
+      rw (r .count) (s .upto),
+      from-no (isOver f (b .args .origin) (b .args .size)) _ _ taken (o .inv .3) (over-no f (b .args .origin) (b .args .size) (o .k) _ (s .upto .ends) (omega arith)),
     )
-
-returns-3 : tie.Need-returns-3 Inv-loop μ-loop
-returns-3 c = from-end _ _ _ (c .before .loop .inv .0) (search needs) (c .before .loop .inv .3)
 
 pub first-over-spec : {M : Type 1} → statement M
 first-over-spec =
@@ -89,16 +52,11 @@ first-over-spec =
     Inv-loop
     μ-loop
     loop-holds
-    insn-at-requires
-    offset-behind-requires
-    encoded-length-requires
-    enum-known-length
-    enum-told
+    (λ c κs. search needs)
+    (λ c. search needs)
     returns
-    sub-if1
-    returns-2
-    add-at
-    add-k
-    loop-less
+    (λ c. omega arith)
+    (λ c. search needs)
+    (λ c. search needs)
     loop-again
-    returns-3)
+    (λ c. from-end _ _ _ (c .before .loop .inv .0) (search needs) (c .before .loop .inv .3)))

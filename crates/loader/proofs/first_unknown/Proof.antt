@@ -14,33 +14,6 @@ Inv-loop file n k₀ k = (k ≤ n) × (firstUnknown file n ≡ firstFrom (isUnkn
 abbrev μ-loop : tie.MeasureT-loop
 μ-loop file n k₀ k = n - k
 
-loop-holds : tie.Need-loop-holds Inv-loop μ-loop
-loop-holds c = (search needs, from-start (isUnknown (now (c .before .args .file))) (c .before .args .n))
-
-place-of-requires : tie.Need-place-of-requires Inv-loop μ-loop
-place-of-requires c κs = search needs
-
-add-to : tie.Need-add-to Inv-loop μ-loop
-add-to c = search needs
-
-sub-rec : tie.Need-sub-rec Inv-loop μ-loop
-sub-rec c = search needs
-
-part-rec-start : tie.Need-part-rec-start Inv-loop μ-loop
-part-rec-start c = search needs
-
-part-rec-end : tie.Need-part-rec-end Inv-loop μ-loop
-part-rec-end c = search needs
-
-codes-known-requires : tie.Need-codes-known-requires Inv-loop μ-loop
-codes-known-requires c κs = search needs
-
-add-k : tie.Need-add-k Inv-loop μ-loop
-add-k c = search needs
-
-loop-less : tie.Need-loop-less Inv-loop μ-loop
-loop-less c = search needs
-
 loop-again : tie.Need-loop-again Inv-loop μ-loop
 loop-again c =
     let at = c .before .before .before .before .before .before .before in
@@ -57,24 +30,21 @@ returns c =
     let u = unknown-is (now (at .args .file)) k (c .before .codes-known .result) false known (c .if1 .left) in
     from-yes (isUnknown (now (at .args .file))) _ _ (c .before .before .before .before .loop-test .taken) (c .before .before .before .before .before .loop .inv .1) u
 
-returns-2 : tie.Need-returns-2 Inv-loop μ-loop
-returns-2 c = from-end _ _ _ (c .before .loop .inv .0) (search needs) (c .before .loop .inv .1)
-
 pub first-unknown-spec : {M : Type 1} → statement M
 first-unknown-spec =
     tie.close
     (tie.spec
     Inv-loop
     μ-loop
-    loop-holds
-    place-of-requires
-    add-to
-    sub-rec
-    part-rec-start
-    part-rec-end
-    codes-known-requires
-    add-k
-    loop-less
+    (λ c. (search needs, from-start (isUnknown (now (c .before .args .file))) (c .before .args .n)))
+    (λ c κs. search needs)
+    (λ c. search needs)
+    (λ c. search needs)
+    (λ c. search needs)
+    (λ c. search needs)
+    (λ c κs. search needs)
+    (λ c. search needs)
+    (λ c. search needs)
     loop-again
     returns
-    returns-2)
+    (λ c. from-end _ _ _ (c .before .loop .inv .0) (search needs) (c .before .loop .inv .1)))

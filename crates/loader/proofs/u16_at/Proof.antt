@@ -3,40 +3,16 @@ use borrow.Author.Needs.{needs}
 use Rattle.loader.proofs.u16_at.Statement.{statement}
 use Rattle.loader.proofs.u16_at.Tie as tie
 
-byte-at-requires : tie.Need-byte-at-requires
-byte-at-requires c κs = search needs
-
-cast-result : tie.Need-cast-result
-cast-result c = search needs
-
-add-byte-at : tie.Need-add-byte-at
-add-byte-at c = search needs
-
-byte-at-requires-2 : tie.Need-byte-at-requires-2
-byte-at-requires-2 c κs = search needs
-
-cast-result-2 : tie.Need-cast-result-2
-cast-result-2 c = search needs
-
-mul-result : tie.Need-mul-result
-mul-result c = search needs
-
-add-result : tie.Need-add-result
-add-result c = search needs
-
-returns : tie.Need-returns
-unfolding u16At
-returns c = search needs
-
 pub u16-at-spec : {M : Type 1} → statement M
+unfolding u16At
 u16-at-spec =
     tie.close
     (tie.spec
-    byte-at-requires
-    cast-result
-    add-byte-at
-    byte-at-requires-2
-    cast-result-2
-    mul-result
-    add-result
-    returns)
+    (λ c κs. search needs)
+    (λ c. search needs)
+    (λ c. search needs)
+    (λ c κs. search needs)
+    (λ c. search needs)
+    (λ c. search needs)
+    (λ c. search needs)
+    (λ c. search needs))

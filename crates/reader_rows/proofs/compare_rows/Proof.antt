@@ -63,21 +63,6 @@ pub compare-rows-spec : {M : Type 1} → statement M
 compare-rows-spec =
     tie.close
     (tie.spec
-    Inv-loop
-    μ-loop
-    loop-holds
-    sub-left
-    slice-aggregate-read-full
-    read-full-requires
-    loop-less
-    loop-again
-    add-rows
-    agrees-requires
-    add-differing
-    slice-aggregate-write-all
-    write-all-requires
-    loop-less-2
-    loop-again-2
-    loop-less-3
-    loop-again-3
-    returns)
+    Inv-loop μ-loop loop-holds sub-left slice-aggregate-read-full read-full-requires loop-less loop-again
+    add-rows agrees-requires add-differing slice-aggregate-write-all write-all-requires loop-less-2
+    loop-again-2 loop-less-3 loop-again-3 returns)

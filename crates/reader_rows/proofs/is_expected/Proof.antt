@@ -40,14 +40,5 @@ pub is-expected-spec : {M : Type 1} → statement M
 is-expected-spec =
     tie.close
     (tie.spec
-    Inv-loop
-    μ-loop
-    loop-holds
-    add-field
-    field-requires
-    element-copy-out-if1
-    returns
-    add-i
-    loop-less
-    loop-again
-    returns-2)
+    Inv-loop μ-loop loop-holds add-field field-requires element-copy-out-if1 returns add-i loop-less
+    loop-again returns-2)

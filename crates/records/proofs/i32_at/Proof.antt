@@ -5,15 +5,9 @@ use borrow.Author.Needs.{needs}
 use Rattle.records.proofs.i32_at.Statement.{statement}
 use Rattle.records.proofs.i32_at.Tie as tie
 
-u32-at-requires : tie.Need-u32-at-requires
-u32-at-requires c κs = search needs
-
-as-i32-requires : tie.Need-as-i32-requires
-as-i32-requires c κs = search needs
-
 returns : tie.Need-returns
 returns c = let f : SFits w32 (c .as-i32 .result) = search needs in
     rw (toZ-ofZ w32 (c .as-i32 .result) f, ← (c .before .u32-at .ensures)) (c .as-i32 .ensures)
 
 pub i32-at-spec : {M : Type 1} → statement M
-i32-at-spec = tie.close (tie.spec u32-at-requires as-i32-requires returns)
+i32-at-spec = tie.close (tie.spec (λ c κs. search needs) (λ c κs. search needs) returns)

@@ -6,27 +6,6 @@ use borrow.Author.Needs.{needs}
 use Rattle.show_text.proofs.line_of.Statement.{statement}
 use Rattle.show_text.proofs.line_of.Tie as tie
 
-empty-line-requires : tie.Need-empty-line-requires
-empty-line-requires c κs = search needs
-
-push-hex-word-requires : tie.Need-push-hex-word-requires
-push-hex-word-requires c κs = search needs
-
-push-requires : tie.Need-push-requires
-push-requires c κs = search needs
-
-push-decimal-requires : tie.Need-push-decimal-requires
-push-decimal-requires c κs = search needs
-
-push-requires-2 : tie.Need-push-requires-2
-push-requires-2 c κs = search needs
-
-push-run-requires : tie.Need-push-run-requires
-push-run-requires c κs = search needs
-
-push-requires-3 : tie.Need-push-requires-3
-push-requires-3 c κs = search needs
-
 returns : tie.Need-returns
 returns c =
     let a = c .before .before .before .before .before .before .before .args in
@@ -37,11 +16,11 @@ pub line-of-spec : {M : Type 1} → statement M
 line-of-spec =
     tie.close
     (tie.spec
-    empty-line-requires
-    push-hex-word-requires
-    push-requires
-    push-decimal-requires
-    push-requires-2
-    push-run-requires
-    push-requires-3
+    (λ c κs. search needs)
+    (λ c κs. search needs)
+    (λ c κs. search needs)
+    (λ c κs. search needs)
+    (λ c κs. search needs)
+    (λ c κs. search needs)
+    (λ c κs. search needs)
     returns)

@@ -3,17 +3,5 @@ use borrow.Author.Needs.{needs}
 use Rattle.show_text.proofs.push.Statement.{statement}
 use Rattle.show_text.proofs.push.Tie as tie
 
-element-write-next : tie.Need-element-write-next
-element-write-next c = search needs
-
-add-next : tie.Need-add-next
-add-next c = search needs
-
-returns : tie.Need-returns
-returns c = rw (lt-ltb _ _ (c .if1 .taken))
-
-returns-2 : tie.Need-returns-2
-returns-2 c = rw (le-ltb _ _ (c .if1 .left))
-
 pub push-spec : {M : Type 1} → statement M
-push-spec = tie.close (tie.spec element-write-next add-next returns returns-2)
+push-spec = tie.close (tie.spec (λ c. search needs) (λ c. search needs) (λ c. rw (lt-ltb _ _ (c .if1 .taken))) (λ c. rw (le-ltb _ _ (c .if1 .left))))

@@ -6,27 +6,6 @@ use borrow.Author.Needs.{needs}
 use Rattle.show_text.proofs.push_decimal.Statement.{statement}
 use Rattle.show_text.proofs.push_decimal.Tie as tie
 
-push-digit-requires : tie.Need-push-digit-requires
-push-digit-requires c κs = search needs
-
-push-digit-requires-2 : tie.Need-push-digit-requires-2
-push-digit-requires-2 c κs = search needs
-
-push-digit-requires-3 : tie.Need-push-digit-requires-3
-push-digit-requires-3 c κs = search needs
-
-push-digit-requires-4 : tie.Need-push-digit-requires-4
-push-digit-requires-4 c κs = search needs
-
-cast-push : tie.Need-cast-push
-cast-push c = search needs
-
-add-push : tie.Need-add-push
-add-push c = search needs
-
-push-requires : tie.Need-push-requires
-push-requires c κs = search needs
-
 returns : tie.Need-returns
 unfolding decimal
 returns c =
@@ -44,11 +23,11 @@ pub push-decimal-spec : {M : Type 1} → statement M
 push-decimal-spec =
     tie.close
     (tie.spec
-    push-digit-requires
-    push-digit-requires-2
-    push-digit-requires-3
-    push-digit-requires-4
-    cast-push
-    add-push
-    push-requires
+    (λ c κs. search needs)
+    (λ c κs. search needs)
+    (λ c κs. search needs)
+    (λ c κs. search needs)
+    (λ c. search needs)
+    (λ c. search needs)
+    (λ c κs. search needs)
     returns)

@@ -5,18 +5,6 @@ use borrow.Author.Needs.{needs}
 use Rattle.show_text.proofs.push_hex_word.Statement.{statement}
 use Rattle.show_text.proofs.push_hex_word.Tie as tie
 
-cast-push-hex-byte : tie.Need-cast-push-hex-byte
-cast-push-hex-byte c = search needs
-
-push-hex-byte-requires : tie.Need-push-hex-byte-requires
-push-hex-byte-requires c κs = search needs
-
-cast-push-hex-byte-2 : tie.Need-cast-push-hex-byte-2
-cast-push-hex-byte-2 c = search needs
-
-push-hex-byte-requires-2 : tie.Need-push-hex-byte-requires-2
-push-hex-byte-requires-2 c κs = search needs
-
 returns : tie.Need-returns
 unfolding hexWord
 returns c =
@@ -27,8 +15,8 @@ pub push-hex-word-spec : {M : Type 1} → statement M
 push-hex-word-spec =
     tie.close
     (tie.spec
-    cast-push-hex-byte
-    push-hex-byte-requires
-    cast-push-hex-byte-2
-    push-hex-byte-requires-2
+    (λ c. search needs)
+    (λ c κs. search needs)
+    (λ c. search needs)
+    (λ c κs. search needs)
     returns)

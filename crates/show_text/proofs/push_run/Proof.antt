@@ -15,21 +15,6 @@ Inv-loop run n so-far₀ i₀ so-far i = (i ≤ n) × (length (run .bytes) ≡ 7
 abbrev μ-loop : tie.MeasureT-loop
 μ-loop run n so-far₀ i₀ so-far i = n - i
 
-loop-holds : tie.Need-loop-holds Inv-loop μ-loop
-loop-holds c = (search needs, search needs, refl)
-
-element-copy-out-b : tie.Need-element-copy-out-b Inv-loop μ-loop
-element-copy-out-b c = search needs
-
-push-hex-byte-requires : tie.Need-push-hex-byte-requires Inv-loop μ-loop
-push-hex-byte-requires c κs = search needs
-
-add-i : tie.Need-add-i Inv-loop μ-loop
-add-i c = search needs
-
-loop-less : tie.Need-loop-less Inv-loop μ-loop
-loop-less c = search needs
-
 loop-again : tie.Need-loop-again Inv-loop μ-loop
 loop-again c =
     let o = c .before .before .before .loop in
@@ -48,10 +33,10 @@ push-run-spec =
     (tie.spec
     Inv-loop
     μ-loop
-    loop-holds
-    element-copy-out-b
-    push-hex-byte-requires
-    add-i
-    loop-less
+    (λ c. (search needs, search needs, refl))
+    (λ c. search needs)
+    (λ c κs. search needs)
+    (λ c. search needs)
+    (λ c. search needs)
     loop-again
     returns)

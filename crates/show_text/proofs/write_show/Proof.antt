@@ -1,77 +1,57 @@
-use Rattle.show_text.proofs.Shown.{accepted-shown, first-fits, first-in, rest-fits, length-is, whole-is, text-most}
+use Rattle.show_text.proofs.Shown.{first-fits, first-in, whole-is}
 use denote.Ref.{now}
-use lib.ListN.{length}
 use native.Mathlib.Omega.{arith}
-use mathlib.Core.Path.{_≡_}
-use Prim.Native.Nat.{_+_}
-use Rattle.show_text.specs.Text.{text}
 use borrow.Author.Needs.{needs}
 use Rattle.show_text.proofs.write_show.Statement.{statement}
 use Rattle.show_text.proofs.write_show.Tie as tie
 
-cast-n : tie.Need-cast-n
-cast-n c = search needs
-
-first-line-requires : tie.Need-first-line-requires
-first-line-requires c κs = search needs
-
 write-line-requires : tie.Need-write-line-requires
 write-line-requires c κs =
-    let a = c .before .before .before .before .before .args in
-    let shown = accepted-shown (now (a .file)) (a .header) (c .before .before .before .before .before .pre .0) in
-    first-fits (now (a .file)) (a .header) shown (now (a .out)) (c .before .before .before .before .before .pre .1) (c .before .first-line .result) (c .before .first-line .ensures)
-
-sub-part : tie.Need-sub-part
-sub-part c =
-    let a = c .before .before .before .before .before .before .before .before .args in
-    let shown = accepted-shown (now (a .file)) (a .header) (c .before .before .before .before .before .before .before .before .pre .0) in
-    let h = first-in (now (a .file)) (a .header) shown (now (a .out)) (c .before .before .before .before .before .before .before .before .pre .1) (c .before .before .before .before .first-line .result) (c .before .before .before .before .first-line .ensures) (c .before .before .write-line .last .1 .0) (c .before .before .write-line .result) (c .before .before .write-line .ensures .0) (c .before .before .write-line .ensures .1) in
-    omega arith
+    let b = c .before .before .before .before .before in
+    first-fits (now (b .args .file)) (b .args .header) (b .pre .1) (now (b .args .out)) (b .pre .3) (c .before .first-line .result) (c .before .first-line .ensures)
 
 part-part-start : tie.Need-part-part-start
 part-part-start c =
-    let a = c .before .before .before .before .before .before .before .before .args in
-    let shown = accepted-shown (now (a .file)) (a .header) (c .before .before .before .before .before .before .before .before .pre .0) in
-    let h = first-in (now (a .file)) (a .header) shown (now (a .out)) (c .before .before .before .before .before .before .before .before .pre .1) (c .before .before .before .before .first-line .result) (c .before .before .before .before .first-line .ensures) (c .before .before .write-line .last .1 .0) (c .before .before .write-line .result) (c .before .before .write-line .ensures .0) (c .before .before .write-line .ensures .1) in
-    omega arith
-
-part-part-end : tie.Need-part-part-end
-part-part-end c = search needs
+    let b = c .before .before .before .before .before .before .before .before in
+    let l = c .before .before .before .before .first-line in
+    let w = c .before .before .write-line in
+    first-in (now (b .args .file)) (b .args .header) (b .pre .1) (now (b .args .out)) (b .pre .3) (l .result) (l .ensures) _ (w .result) (w .ensures .0) (w .ensures .1) .0
 
 write-lines-requires : tie.Need-write-lines-requires
 write-lines-requires c κs =
-    let a = c .before .before .before .before .before .before .before .before .before .args in
-    let shown = accepted-shown (now (a .file)) (a .header) (c .before .before .before .before .before .before .before .before .before .pre .0) in
-    (shown .exact .its-length, shown .exact .its-count, shown .all-in, rest-fits (now (a .file)) (a .header) shown (now (a .out)) (c .before .before .before .before .before .before .before .before .before .pre .1) (c .before .before .before .before .before .first-line .result) (c .before .before .before .before .before .first-line .ensures) (c .before .before .before .write-line .last .1 .0) (c .before .before .before .write-line .result) (c .before .before .before .write-line .ensures .0) (c .before .before .before .write-line .ensures .1))
+    let b = c .before .before .before .before .before .before .before .before .before in
+    let l = c .before .before .before .before .before .first-line in
+    let w = c .before .before .before .write-line in
+    (b .pre .0, b .pre .1, b .pre .2, first-in (now (b .args .file)) (b .args .header) (b .pre .1) (now (b .args .out)) (b .pre .3) (l .result) (l .ensures) _ (w .result) (w .ensures .0) (w .ensures .1) .1)
 
 add-result : tie.Need-add-result
 add-result c =
-    let a = c .before .before .before .before .before .before .before .before .before .before .before .before .args in
-    let shown = accepted-shown (now (a .file)) (a .header) (c .before .before .before .before .before .before .before .before .before .before .before .before .pre .0) in
-    let m = text-most (now (a .file)) in
-    let l : c .before .before .before .before .before .before .write-line .result + c .before .before .write-lines .result ≡ length (text (now (a .file))) = length-is (now (a .file)) (a .header) shown (now (a .out)) (c .before .before .before .before .before .before .before .before .before .before .before .before .pre .1) (c .before .before .before .before .before .before .before .before .first-line .result) (c .before .before .before .before .before .before .before .before .first-line .ensures) (c .before .before .before .before .before .before .write-line .last .1 .0) (c .before .before .before .before .before .before .write-line .result) (c .before .before .before .before .before .before .write-line .ensures .0) (c .before .before .before .before .before .before .write-line .ensures .1) (c .before .before .write-lines .last .1 .1 .1 .0) (c .before .before .write-lines .result) (c .before .before .write-lines .ensures .0) (c .before .before .write-lines .ensures .1) in
+    let b = c .before .before .before .before .before .before .before .before .before .before .before .before in
+    let l = c .before .before .before .before .before .before .before .before .first-line in
+    let w = c .before .before .before .before .before .before .write-line in
+    let h = first-in (now (b .args .file)) (b .args .header) (b .pre .1) (now (b .args .out)) (b .pre .3) (l .result) (l .ensures) _ (w .result) (w .ensures .0) (w .ensures .1) .2 in
+    let m = c .before .before .write-lines .ensures .0 in
     omega arith
-
-same-length : tie.Need-same-length
-same-length c = search needs
 
 returns : tie.Need-returns
 returns c =
-    let a = c .before .before .before .before .before .before .before .before .before .before .before .before .args in
-    let shown = accepted-shown (now (a .file)) (a .header) (c .before .before .before .before .before .before .before .before .before .before .before .before .pre .0) in
-    (length-is (now (a .file)) (a .header) shown (now (a .out)) (c .before .before .before .before .before .before .before .before .before .before .before .before .pre .1) (c .before .before .before .before .before .before .before .before .first-line .result) (c .before .before .before .before .before .before .before .before .first-line .ensures) (c .before .before .before .before .before .before .write-line .last .1 .0) (c .before .before .before .before .before .before .write-line .result) (c .before .before .before .before .before .before .write-line .ensures .0) (c .before .before .before .before .before .before .write-line .ensures .1) (c .before .before .write-lines .last .1 .1 .1 .0) (c .before .before .write-lines .result) (c .before .before .write-lines .ensures .0) (c .before .before .write-lines .ensures .1), whole-is (now (a .file)) (a .header) shown (now (a .out)) (c .before .before .before .before .before .before .before .before .before .before .before .before .pre .1) (c .before .before .before .before .before .before .before .before .first-line .result) (c .before .before .before .before .before .before .before .before .first-line .ensures) (c .before .before .before .before .before .before .write-line .last .1 .0) (c .before .before .before .before .before .before .write-line .result) (c .before .before .before .before .before .before .write-line .ensures .0) (c .before .before .before .before .before .before .write-line .ensures .1) (c .before .before .write-lines .last .1 .1 .1 .0) (c .before .before .write-lines .result) (c .before .before .write-lines .ensures .0) (c .before .before .write-lines .ensures .1))
+    let b = c .before .before .before .before .before .before .before .before .before .before .before .before in
+    let l = c .before .before .before .before .before .before .before .before .first-line in
+    let w = c .before .before .before .before .before .before .write-line in
+    let s = c .before .before .write-lines in
+    whole-is (now (b .args .file)) (b .args .header) (b .pre .1) (now (b .args .out)) (b .pre .3) (l .result) (l .ensures) _ (w .result) (w .ensures .0) (w .ensures .1) _ (s .result) (s .ensures .0) (s .ensures .1)
 
 pub write-show-spec : {M : Type 1} → statement M
 write-show-spec =
     tie.close
     (tie.spec
-    cast-n
-    first-line-requires
+    (λ c. search needs)
+    (λ c κs. search needs)
     write-line-requires
-    sub-part
+    (λ c. part-part-start c)
     part-part-start
-    part-part-end
+    (λ c. search needs)
     write-lines-requires
     add-result
-    same-length
+    (λ c. search needs)
     returns)

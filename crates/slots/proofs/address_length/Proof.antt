@@ -2,32 +2,10 @@ use borrow.Author.Needs.{needs}
 use Rattle.slots.proofs.address_length.Statement.{statement}
 use Rattle.slots.proofs.address_length.Tie as tie
 
-enum-told : tie.Need-enum-told
-enum-told c = search needs
-
-enum-told-2 : tie.Need-enum-told-2
-enum-told-2 c = search needs
-
-displacement-length-requires : tie.Need-displacement-length-requires
-displacement-length-requires c κs = search needs
-
-enum-told-3 : tie.Need-enum-told-3
-enum-told-3 c = search needs
-
-enum-told-4 : tie.Need-enum-told-4
-enum-told-4 c = search needs
-
-returns : tie.Need-returns
-returns c = rw (c .enum-told .given .1)
-
-returns-2 : tie.Need-returns-2
-returns-2 c = rw (c .before .enum-told2 .given .1, c .displacement-length .ensures)
-
-returns-3 : tie.Need-returns-3
-returns-3 c = rw (c .enum-told3 .given .1)
-
-returns-4 : tie.Need-returns-4
-returns-4 c = rw (c .enum-told4 .given .1)
-
 pub address-length-spec : {M : Type 1} → statement M
-address-length-spec = tie.close (tie.spec enum-told enum-told-2 displacement-length-requires enum-told-3 enum-told-4 returns returns-2 returns-3 returns-4)
+address-length-spec =
+    tie.close
+    (tie.spec
+    (λ c. search needs) (λ c. search needs) (λ c κs. search needs) (λ c. search needs) (λ c. search needs) (λ c. search needs)
+    (λ c. rw (c .before .enum-told2 .given .1, c .displacement-length .ensures))
+    (λ c. search needs) (λ c. search needs))

@@ -2,20 +2,12 @@ use Rattle.slots.proofs.Laws.{tests}
 use Rattle.slots.proofs.in_effect.Statement.{statement}
 use Rattle.slots.proofs.in_effect.Tie as tie
 
-returns : tie.Need-returns
-returns c = search tests
-
-returns-2 : tie.Need-returns-2
-returns-2 c = search tests
-
-returns-3 : tie.Need-returns-3
-returns-3 c = search tests
-
-returns-4 : tie.Need-returns-4
-returns-4 c = search tests
-
-returns-5 : tie.Need-returns-5
-returns-5 c = search tests
-
 pub in-effect-spec : {M : Type 1} → statement M
-in-effect-spec = tie.close (tie.spec returns returns-2 returns-3 returns-4 returns-5)
+in-effect-spec =
+    tie.close
+    (tie.spec
+    (λ c. search tests)
+    (λ c. search tests)
+    (λ c. search tests)
+    (λ c. search tests)
+    (λ c. search tests))

@@ -3,41 +3,16 @@ use borrow.Author.Needs.{needs}
 use Rattle.slots.proofs.only_fits.Statement.{statement}
 use Rattle.slots.proofs.only_fits.Tie as tie
 
-enum-told : tie.Need-enum-told
-enum-told c = search needs
-
-enum-told-2 : tie.Need-enum-told-2
-enum-told-2 c = search needs
-
-enum-told-3 : tie.Need-enum-told-3
-enum-told-3 c = search needs
-
-enum-told-4 : tie.Need-enum-told-4
-enum-told-4 c = search needs
-
-returns : tie.Need-returns
-returns c = rw (c .before .before .enum-told4 .given .1) (search tests)
-
-returns-2 : tie.Need-returns-2
-returns-2 c = rw (c .before .before .enum-told4 .given .1) (search tests)
-
-enum-told-5 : tie.Need-enum-told-5
-enum-told-5 c = search needs
-
-returns-3 : tie.Need-returns-3
-returns-3 c = rw (c .enum-told .given .1)
-
-returns-4 : tie.Need-returns-4
-returns-4 c = rw (c .enum-told2 .given .1)
-
-returns-5 : tie.Need-returns-5
-returns-5 c = rw (c .enum-told3 .given .1)
-
-returns-6 : tie.Need-returns-6
-returns-6 c = rw (c .before .enum-told4 .given .1) (search tests)
-
-returns-7 : tie.Need-returns-7
-returns-7 c = rw (c .enum-told5 .given .1)
-
 pub only-fits-spec : {M : Type 1} → statement M
-only-fits-spec = tie.close (tie.spec enum-told enum-told-2 enum-told-3 enum-told-4 returns returns-2 enum-told-5 returns-3 returns-4 returns-5 returns-6 returns-7)
+only-fits-spec =
+    tie.close
+    (tie.spec
+    (λ c. search needs) (λ c. search needs) (λ c. search needs) (λ c. search needs)
+    (λ c. rw (c .before .before .enum-told4 .given .1) (search tests))
+    (λ c. rw (c .before .before .enum-told4 .given .1) (search tests))
+    (λ c. search needs)
+    (λ c. rw (c .enum-told .given .1))
+    (λ c. rw (c .enum-told2 .given .1))
+    (λ c. rw (c .enum-told3 .given .1))
+    (λ c. rw (c .before .enum-told4 .given .1) (search tests))
+    (λ c. rw (c .enum-told5 .given .1)))

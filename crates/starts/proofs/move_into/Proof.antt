@@ -4,35 +4,14 @@ use Rattle.listing.specs.Starts.{moveInto}
 use Rattle.starts.proofs.move_into.Statement.{statement}
 use Rattle.starts.proofs.move_into.Tie as tie
 
-sized-opcode-requires : tie.Need-sized-opcode-requires
-sized-opcode-requires c κs = search needs
-
-start-with-rm-requires : tie.Need-start-with-rm-requires
-start-with-rm-requires c κs = search needs
-
-returns : tie.Need-returns
-unfolding moveInto
-returns c = rw (eq-eqb _ _ (c .before .before .if1 .taken)) (rw (c .before .sized-opcode .ensures) at (c .start-with-rm .ensures))
-
-sized-opcode-requires-2 : tie.Need-sized-opcode-requires-2
-sized-opcode-requires-2 c κs = search needs
-
-bare-start-requires : tie.Need-bare-start-requires
-bare-start-requires c κs = search needs
-
-returns-2 : tie.Need-returns-2
-unfolding moveInto
-returns-2 c = rw (ne-eqb _ _ (c .before .before .before .before .if1 .left), eq-eqb _ _ (c .before .before .if2 .taken)) (rw (c .before .sized-opcode2 .ensures) at (c .bare-start .ensures))
-
-sized-opcode-requires-3 : tie.Need-sized-opcode-requires-3
-sized-opcode-requires-3 c κs = search needs
-
-start-with-rm-requires-2 : tie.Need-start-with-rm-requires-2
-start-with-rm-requires-2 c κs = search needs
-
-returns-3 : tie.Need-returns-3
-unfolding moveInto
-returns-3 c = rw (ne-eqb _ _ (c .before .before .before .before .if1 .left), ne-eqb _ _ (c .before .before .if2 .left)) (rw (c .before .sized-opcode3 .ensures) at (c .start-with-rm2 .ensures))
-
 pub move-into-spec : {M : Type 1} → statement M
-move-into-spec = tie.close (tie.spec sized-opcode-requires start-with-rm-requires returns sized-opcode-requires-2 bare-start-requires returns-2 sized-opcode-requires-3 start-with-rm-requires-2 returns-3)
+unfolding moveInto
+move-into-spec =
+    tie.close
+    (tie.spec
+    (λ c κs. search needs) (λ c κs. search needs)
+    (λ c. rw (eq-eqb _ _ (c .before .before .if1 .taken)) (rw (c .before .sized-opcode .ensures) at (c .start-with-rm .ensures)))
+    (λ c κs. search needs) (λ c κs. search needs)
+    (λ c. rw (ne-eqb _ _ (c .before .before .before .before .if1 .left), eq-eqb _ _ (c .before .before .if2 .taken)) (rw (c .before .sized-opcode2 .ensures) at (c .bare-start .ensures)))
+    (λ c κs. search needs) (λ c κs. search needs)
+    (λ c. rw (ne-eqb _ _ (c .before .before .before .before .if1 .left), ne-eqb _ _ (c .before .before .if2 .left)) (rw (c .before .sized-opcode3 .ensures) at (c .start-with-rm2 .ensures))))

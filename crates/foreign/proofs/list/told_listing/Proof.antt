@@ -1,55 +1,39 @@
-use Rattle.foreign.proofs.Laws.{is-wrong, is-unknown, is-known}
-use borrow.Author.Tests.{eq-eqb, ne-eqb}
+use Rattle.foreign.proofs.Laws.{is-record, not-record}
+use Rattle.foreign.specs.EncodeRecord.{recordOf, toldOf, leftBy}
+use denote.Ref.{now}
 use mathlib.Core.Path.{sym, _∙_}
 use borrow.Author.Needs.{needs}
 use Rattle.foreign.proofs.list.told_listing.Statement.{statement}
 use Rattle.foreign.proofs.list.told_listing.Tie as tie
 
-told-alone-requires : tie.Need-told-alone-requires
-told-alone-requires c κs = search needs
+instruction-at-requires : tie.Need-instruction-at-requires
+instruction-at-requires c κs = is-record _ (sym (c .before .record-number .ensures) ∙ c .if1 .taken) .0
 
 returns : tie.Need-returns
-returns c = let e = is-wrong (c .before .before .before .before .args .rec .now) (ne-eqb _ _ (c .before .if1 .taken)) in
-    (rw e (c .told-alone .ensures), rw e)
-
-codes-known-requires : tie.Need-codes-known-requires
-codes-known-requires c κs = search needs
-
-instruction-at-requires : tie.Need-instruction-at-requires
-instruction-at-requires c κs = search needs
-
-list-requires : tie.Need-list-requires
-list-requires c κs = search needs
-
-told-listed-requires : tie.Need-told-listed-requires
-told-listed-requires c κs = search needs
-
-told-alone-requires-2 : tie.Need-told-alone-requires-2
-told-alone-requires-2 c κs = search needs
-
-same-length : tie.Need-same-length
-same-length c = search needs
+unfolding toldOf leftBy
+returns c =
+    let n = c .before .before .before .before .before .before .before .record-number in
+    let e = is-record _ (sym (n .ensures) ∙ c .before .before .before .before .before .before .if1 .taken) .1 in
+    let i = c .before .before .before .before .before .instruction-at .ensures in
+    let w = c .before .before .before .list in
+    (rw e (rw (w .ensures .0, i) at (c .told-listed .ensures)), rw e (rw i at (w .ensures .1)))
 
 returns-2 : tie.Need-returns-2
-returns-2 c = let e = is-known (c .before .before .before .before .before .before .before .before .before .before .before .args .rec .now) (eq-eqb _ _ (c .before .before .before .before .before .before .before .before .if1 .left)) (sym (c .before .before .before .before .before .before .before .codes-known .ensures) ∙ c .before .before .before .before .before .before .if2 .taken) in
-    let i = c .before .before .before .before .before .instruction-at .ensures in
-    (rw e (rw (c .before .before .before .list .ensures .0, i) at (c .told-listed .ensures)), rw e (rw i at (c .before .before .before .list .ensures .1)))
-
-returns-3 : tie.Need-returns-3
-returns-3 c = let e = is-unknown (c .before .before .before .before .before .before .args .rec .now) (eq-eqb _ _ (c .before .before .before .if1 .left)) (sym (c .before .before .codes-known .ensures) ∙ c .before .if2 .left) in
-    (rw e (c .told-alone2 .ensures), rw e)
+returns-2 c =
+    let n = c .before .before .record-number in
+    let r = recordOf (now (c .before .before .before .before .before .args .rec)) in
+    let h = not-record r (λ q. c .before .if1 .left (n .ensures ∙ q)) in
+    (rw (n .ensures) at (c .told-alone .ensures) ∙ h .tells _, h .leaves _ _)
 
 pub told-listing-spec : {M : Type 1} → statement M
 told-listing-spec =
     tie.close
     (tie.spec
-    told-alone-requires
-    returns
-    codes-known-requires
+    (λ c κs. search needs)
     instruction-at-requires
-    list-requires
-    told-listed-requires
-    told-alone-requires-2
-    same-length
-    returns-2
-    returns-3)
+    (λ c κs. search needs)
+    (λ c κs. search needs)
+    (λ c κs. search needs)
+    (λ c. search needs)
+    returns
+    returns-2)

@@ -6,21 +6,6 @@ use borrow.Author.Needs.{needs}
 use Rattle.mrc_compiler.proofs.encoder.OperandData.indirect.Statement.{statement}
 use Rattle.mrc_compiler.proofs.encoder.OperandData.indirect.Tie as tie
 
-cast-wide : tie.Need-cast-wide
-cast-wide c = wide-fits (c .args .displacement) (c .fits .displacement)
-
-operand-size-from-data-size-requires : tie.Need-operand-size-from-data-size-requires
-operand-size-from-data-size-requires c κs = search needs
-
-override-prefix-requires : tie.Need-override-prefix-requires
-override-prefix-requires c κs = search needs
-
-value-is-zero-requires : tie.Need-value-is-zero-requires
-value-is-zero-requires c κs = search needs
-
-value-is-signed-byte-requires : tie.Need-value-is-signed-byte-requires
-value-is-signed-byte-requires c κs = search needs
-
 returns : tie.Need-returns
 returns c =
     let a = c .before .before .before .before .before .args in
@@ -56,11 +41,6 @@ pub indirect-spec : {M : Type 1} → statement M
 indirect-spec =
     tie.close
     (tie.spec
-    cast-wide
-    operand-size-from-data-size-requires
-    override-prefix-requires
-    value-is-zero-requires
-    value-is-signed-byte-requires
-    returns
-    returns-2
-    returns-3)
+    (λ c. wide-fits (c .args .displacement) (c .fits .displacement))
+    (λ c κs. search needs) (λ c κs. search needs) (λ c κs. search needs) (λ c κs. search needs) returns
+    returns-2 returns-3)

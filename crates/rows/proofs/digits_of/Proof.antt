@@ -1,0 +1,15 @@
+use Rattle.rows.proofs.Laws.{tests}
+use borrow.Author.Needs.{needs}
+use Rattle.rows.proofs.digits_of.Statement.{statement}
+use Rattle.rows.proofs.digits_of.Tie as tie
+
+pub digits-of-spec : {M : Type 1} → statement M
+digits-of-spec =
+    tie.close
+    (tie.spec
+    (λ c. (search tests, search needs))
+    (λ c. (search tests, search needs))
+    (λ c. (search tests, search needs))
+    (λ c. (search tests, search needs))
+    (λ c. (search tests, search needs))
+    (λ c. (search tests, search needs)))
