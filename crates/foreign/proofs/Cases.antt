@@ -9,11 +9,11 @@ use Rattle.mrc_compiler.specs.declared.ast.Span.{Span}
 use Rattle.mrc_compiler.specs.declared.encoder.EncodeError.the-variants as E
 use Rattle.mrc_compiler.specs.declared.encoder.Encoded.the-variants as N
 use Rattle.mrc_compiler.specs.declared.encoder.OperandSize.the-variants as S
-use Rattle.loader.specs.declared.Header.{Header}
-use Rattle.loader.specs.declared.LoadError.{LoadError}
-use Rattle.loader.specs.declared.LoadError.the-variants as R
+use Rattle.show_file.specs.declared.Header.{Header}
+use Rattle.show_file.specs.declared.LoadError.{LoadError}
+use Rattle.show_file.specs.declared.LoadError.the-variants as R
+use Rattle.show_file.specs.Refusals.{numberOf}
 use Rattle.loader.specs.declared.Loaded.the-variants as L
-use Rattle.loader.specs.Loading.{numberOf}
 use Rattle.foreign.specs.Crossing.{u32Bytes, toldAlone, toldEncoded, reportBytes, reportAfter}
 use Rattle.foreign.specs.LoadShow.{toldLoadError, toldLoaded}
 

@@ -1,11 +1,11 @@
 -- What fsq_load answers: the loader's answer, as it is told.
 -- Definitions only.
 use Prim.Native.Nat.{ℕ, _%_}
-use Rattle.loader.specs.declared.LoadError.{LoadError}
-use Rattle.loader.specs.declared.LoadError.the-variants as E
+use Rattle.show_file.specs.declared.LoadError.{LoadError}
+use Rattle.show_file.specs.declared.LoadError.the-variants as E
+use Rattle.show_file.specs.Refusals.{numberOf}
 use Rattle.loader.specs.declared.Loaded.{Loaded}
 use Rattle.loader.specs.declared.Loaded.the-variants as L
-use Rattle.loader.specs.Loading.{numberOf}
 use Rattle.foreign.specs.declared.report.Told.{Told}
 use Rattle.foreign.specs.Crossing.{toldLength, toldAlone, toldRefusal}
 

@@ -9,8 +9,8 @@ use crate::report::told_alone;
 use crate::report::told_length;
 use crate::report::told_refusal;
 use crate::report::write_report;
-use loader::LoadError;
 use loader::Loaded;
+use show_file::LoadError;
 
 // What is told, of record k of a file.
 fn of_record(told: Told, k: usize) -> Told

@@ -10,10 +10,10 @@ use lib.ListN.{length, take}
 use lib.Seq.{length-take-le, take-all, getD-take}
 use borrow.Author.Tests.{le-leb, leb-true, leb-false, ne-eqb}
 use Rattle.mrc_compiler.specs.Choose.{pick, both}
-use Rattle.loader.specs.declared.LoadError.{LoadError}
-use Rattle.loader.specs.declared.LoadError.the-variants as E
-use Rattle.loader.specs.declared.Opened.the-variants as O
-use Rattle.loader.specs.Show.{headerLength, versionPlace, knownVersion, mostRecords, hasMark, u16At, header, recordPlace, headed, opened}
+use Rattle.show_file.specs.declared.LoadError.{LoadError}
+use Rattle.show_file.specs.declared.LoadError.the-variants as E
+use Rattle.show_file.specs.declared.Opened.the-variants as O
+use Rattle.show_file.specs.Show.{headerLength, versionPlace, knownVersion, mostRecords, hasMark, u16At, header, recordPlace, headed, opened}
 use Rattle.show_text.specs.Text.{refusedLine, text}
 
 -- the longest show file

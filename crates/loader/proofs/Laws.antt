@@ -1,6 +1,6 @@
--- The laws that the loader's loops rest on: the first record of a kind, the step over a record, and what stands at the front of a lent slice.
+-- The laws that the loader's loops rest on: the step over a record, and what stands at the front of a lent slice.
 -- Assumes nothing.
-use mathlib.Core.Path.{_≡_, refl, sym, _∙_}
+use mathlib.Core.Path.{_≡_, refl, _∙_}
 use mathlib.Core.Bool.{Bool, true, false}
 use mathlib.Core.List.{List, [], _∷_, _++_, append-assoc, append-nil}
 use mathlib.Core.Logic.{⊎-elim}
@@ -14,48 +14,21 @@ use lib.Seq.{length-take-le, take-all, take-append-seam, drop-append-seam, drop-
 use borrow.Author.Tests.{ltb-true, ltb-false, leb-true, eqb-true, le-ltb, lt-ltb}
 use borrow.Rule.Slice.PartMut.{putMid}
 use Rattle.mrc_compiler.specs.declared.encoder.EncodeError.{EncodeError}
-use Rattle.mrc_compiler.specs.Choose.{pick, both, isnt}
+use Rattle.mrc_compiler.specs.Choose.{pick, both}
 use Rattle.answers.specs.Answer.{Answer, bytes, refused}
 use Rattle.answers.proofs.Outcomes.{Short, answer-short}
 use Rattle.emitter.specs.Run.{emptyRun}
 use Rattle.emit.specs.declared.Emitted.{Emitted}
 use Rattle.emit.specs.declared.Refusal.the-variants as R
 use Rattle.emit.specs.Emit.{emitted}
-use Rattle.records.specs.Record.{codesKnown}
-use Rattle.loader.specs.declared.Header.{Header}
-use Rattle.loader.specs.declared.LoadError.{LoadError}
-use Rattle.loader.specs.declared.LoadError.the-variants as LE
+use Rattle.show_file.specs.declared.Header.{Header}
+use Rattle.show_file.specs.declared.LoadError.{LoadError}
+use Rattle.show_file.specs.declared.LoadError.the-variants as LE
+use Rattle.show_file.specs.declared.Opened.{Opened}
+use Rattle.show_file.specs.declared.Opened.the-variants as O
+use Rattle.show_file.specs.Show.{headerLength, knownVersion, mostRecords, hasMark, header, recordPlace, insnAt, headed, opened, firstFrom, firstUnknown}
 use Rattle.loader.specs.declared.Loaded.the-variants as L
-use Rattle.loader.specs.declared.Opened.{Opened}
-use Rattle.loader.specs.declared.Opened.the-variants as O
-use Rattle.loader.specs.Show.{headerLength, knownVersion, mostRecords, hasMark, header, recordPlace, recordAt, insnAt, headed, opened}
-use Rattle.loader.specs.Loading.{Walk, all, stopped, offsetBehind, answerAt, bytesOf, followed, further, walk, bytesIn, isAll, firstFrom, isUnknown, isOver, firstUnknown, firstOver, measured, showAccepted, acceptedBy, accepted}
-
--- ---- the first that says yes
-from-step : (f : ℕ → Bool) (n i : ℕ) → i < n → firstFrom f (n - i) i ≡ pick (f i) i (firstFrom f (n - (i + 1)) (i + 1))
-from-step f n i h = let e : n - i ≡ suc (n - (i + 1)) = omega arith in rw (e, add-one i)
-
-pub from-start : (f : ℕ → Bool) (n : ℕ) → firstFrom f n 0 ≡ firstFrom f (n - 0) 0
-from-start f n = let e : n - 0 ≡ n = omega arith in rw e
-
-pub from-end : (f : ℕ → Bool) (n i : ℕ) → i ≤ n → n ≤ i → firstFrom f n 0 ≡ firstFrom f (n - i) i → n ≡ firstFrom f n 0
-from-end f n i h l e = let z : n - i ≡ 0 = omega arith in let s : n ≡ i = omega arith in s ∙ sym (e ∙ rw z)
-
-pub from-yes : (f : ℕ → Bool) (n i : ℕ) → i < n → firstFrom f n 0 ≡ firstFrom f (n - i) i → f i ≡ true → i ≡ firstFrom f n 0
-from-yes f n i h e t = sym (e ∙ from-step f n i h ∙ rw t)
-
-pub from-no : (f : ℕ → Bool) (n i : ℕ) → i < n → firstFrom f n 0 ≡ firstFrom f (n - i) i → f i ≡ false
-    → firstFrom f n 0 ≡ firstFrom f (n - (i + 1)) (i + 1)
-from-no f n i h e t = e ∙ from-step f n i h ∙ rw t
-
--- ---- a record as the code hands it over
-pub handed-is : (file : List ℕ) (k from : ℕ) → from ≡ recordPlace k → take (from + 56 - from) (drop from file) ≡ recordAt file k
-handed-is file k from q = let e : from + 56 - from ≡ 56 = omega arith in rw (e, q) refl
-
--- ---- a code that is not known
-pub unknown-is : (file : List ℕ) (k : ℕ) (r t : Bool) → r ≡ codesKnown (recordAt file k) → r ≡ t → isUnknown file k ≡ isnt t
-unfolding isUnknown
-unknown-is file k r t q e = rw (← q, e) refl
+use Rattle.loader.specs.Loading.{Walk, all, stopped, offsetBehind, answerAt, bytesOf, followed, further, walk, bytesIn, isAll, isOver, firstOver, measured, showAccepted, acceptedBy, accepted}
 
 -- ---- the run of an answer: its bytes, at most seven; none of a refusal
 pub record Ran (d : Emitted) (bs : List ℕ) : Type 0 where

@@ -7,26 +7,15 @@ use lib.Dec.{ltb, leb}
 use lib.ListN.{length, drop}
 use Rattle.mrc_compiler.specs.declared.encoder.EncodeError.{EncodeError}
 use Rattle.mrc_compiler.specs.declared.encoder.EncodeError.the-variants as N
-use Rattle.mrc_compiler.specs.Choose.{pick, isnt}
-use Rattle.mrc_compiler.specs.Refusals.{reportOf}
+use Rattle.mrc_compiler.specs.Choose.{pick}
 use Rattle.answers.specs.Answer.{Answer, bytes, refused, answer}
-use Rattle.records.specs.Record.{codesKnown}
-use Rattle.loader.specs.declared.Header.{Header}
-use Rattle.loader.specs.declared.LoadError.{LoadError}
-use Rattle.loader.specs.declared.LoadError.the-variants as E
+use Rattle.show_file.specs.declared.Header.{Header}
+use Rattle.show_file.specs.declared.LoadError.the-variants as E
+use Rattle.show_file.specs.declared.Opened.{Opened}
+use Rattle.show_file.specs.declared.Opened.the-variants as O
+use Rattle.show_file.specs.Show.{opened, insnAt, firstFrom, firstUnknown}
 use Rattle.loader.specs.declared.Loaded.{Loaded}
 use Rattle.loader.specs.declared.Loaded.the-variants as L
-use Rattle.loader.specs.declared.Opened.{Opened}
-use Rattle.loader.specs.declared.Opened.the-variants as O
-use Rattle.loader.specs.Show.{opened, recordAt, insnAt}
-
--- ---- refusals: document 01's number for each case
-abbrev pub numberOf : LoadError → ℕ
-numberOf E.NoMark = 12
-numberOf E.WrongVersion = 13
-numberOf E.WrongLength = 14
-numberOf (E.UnknownCode k) = 15
-numberOf (E.Record k e) = reportOf e .number
 
 -- ---- the records, one after the other
 -- their bytes, or the first that is refused
@@ -68,21 +57,10 @@ abbrev pub isAll : Walk → Bool
 isAll (all bs) = true
 isAll (stopped k e) = false
 
--- ---- the first of records i, i + 1 .. (k of them) where f says yes, or i + k
-abbrev pub firstFrom : (ℕ → Bool) → ℕ → ℕ → ℕ
-firstFrom f zero i = i
-firstFrom f (suc k) i = pick (f i) i (firstFrom f k (suc i))
-
--- a code that is not known
-unfoldable pub isUnknown : List ℕ → ℕ → Bool
-isUnknown file k = isnt (codesKnown (recordAt file k))
-
+-- ---- the first record that does not fit
 -- an end behind the image's
 unfoldable pub isOver : List ℕ → ℕ → ℕ → ℕ → Bool
 isOver file origin size k = ltb size (length (bytesIn (walk file origin (suc k))))
-
-abbrev pub firstUnknown : List ℕ → ℕ → ℕ
-firstUnknown file n = firstFrom (isUnknown file) n 0
 
 abbrev pub firstOver : List ℕ → ℕ → ℕ → ℕ → ℕ
 firstOver file origin size n = firstFrom (isOver file origin size) n 0

@@ -17,10 +17,11 @@ use Rattle.answers.proofs.Outcomes.{Short}
 use Rattle.emit.specs.declared.Emitted.{Emitted}
 use Rattle.emitter.specs.Run.{emptyRun}
 use Rattle.emit.specs.Emit.{emitted}
-use Rattle.loader.specs.declared.Header.{Header}
-use Rattle.loader.specs.declared.LoadError.{LoadError}
-use Rattle.loader.specs.declared.LoadError.the-variants as E
-use Rattle.loader.specs.Loading.{offsetBehind, answerAt, bytesOf, walk, bytesIn, isAll, numberOf}
+use Rattle.show_file.specs.declared.Header.{Header}
+use Rattle.show_file.specs.declared.LoadError.{LoadError}
+use Rattle.show_file.specs.declared.LoadError.the-variants as E
+use Rattle.show_file.specs.Refusals.{numberOf}
+use Rattle.loader.specs.Loading.{offsetBehind, answerAt, bytesOf, walk, bytesIn, isAll}
 use Rattle.loader.proofs.Laws.{Upto, upto-start, ran, step-all, answer-at-short, Front, front-start, front-next, lent}
 use Rattle.show_text.specs.declared.Line.{Line}
 use Rattle.show_text.specs.Text.{hexByte, hexWord, hexBytes, digitFrom, decimal, firstLine, lineOf, recordOf, refusedLine, blank, lineFeed, recordLine, linesOf, mostLine}

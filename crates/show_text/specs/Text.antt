@@ -5,13 +5,14 @@ use mathlib.Core.List.{List, [], _∷_, _++_}
 use lib.Dec.{ltb, leb}
 use lib.ListN.{length, drop}
 use Rattle.mrc_compiler.specs.Choose.{pick}
-use Rattle.loader.specs.declared.Header.{Header}
-use Rattle.loader.specs.declared.LoadError.{LoadError}
-use Rattle.loader.specs.declared.LoadError.the-variants as E
+use Rattle.show_file.specs.declared.Header.{Header}
+use Rattle.show_file.specs.declared.LoadError.{LoadError}
+use Rattle.show_file.specs.declared.LoadError.the-variants as E
+use Rattle.show_file.specs.Show.{mostRecords}
+use Rattle.show_file.specs.Refusals.{numberOf}
 use Rattle.loader.specs.declared.Loaded.{Loaded}
 use Rattle.loader.specs.declared.Loaded.the-variants as L
-use Rattle.loader.specs.Show.{mostRecords}
-use Rattle.loader.specs.Loading.{numberOf, offsetBehind, answerAt, bytesOf, walk, bytesIn, loaded}
+use Rattle.loader.specs.Loading.{offsetBehind, answerAt, bytesOf, walk, bytesIn, loaded}
 use Rattle.show_text.specs.declared.Listed.{Listed}
 use Rattle.show_text.specs.declared.Listed.the-variants as T
 

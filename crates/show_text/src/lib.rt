@@ -4,14 +4,14 @@ ghost use mathlib.Core.Bool.{true};
 ghost use mathlib.Core.List.{_++_};
 ghost use Prim.Native.Nat.{_*_, _≤_};
 ghost use lib.ListN.{length, take, drop};
-ghost use Rattle.loader.specs.Show.{recordPlace, mostRecords};
+ghost use Rattle.show_file.specs.Show.{recordPlace, mostRecords};
 ghost use Rattle.loader.specs.Loading.{walk, isAll};
 ghost use Rattle.show_text.specs.Text.{hexDigit, hexByte, hexWord, hexBytes, digitFrom, decimal, firstLine, lineOf, recordOf, refusedLine, linesOf, showText, mostLine, mostText, listed, sliceAfter};
 ghost use Rattle.show_text.specs.Steps.{emptyLine, pushed, appended};
 use emitter::ByteRun;
-use loader::Header;
-use loader::LoadError;
 use loader::Loaded;
+use show_file::Header;
+use show_file::LoadError;
 
 // A line of text: bytes and how many of them are there.
 pub struct Line {

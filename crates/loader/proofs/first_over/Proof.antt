@@ -1,5 +1,7 @@
-use Rattle.loader.proofs.Laws.{from-start, from-yes, from-no, from-end, ran, Upto, upto-start, step-all, over-yes, over-no}
-use Rattle.loader.specs.Loading.{firstFrom, firstOver, isOver}
+use Rattle.show_file.specs.Show.{firstFrom}
+use Rattle.show_file.proofs.Laws.{from-start, from-yes, from-no, from-end}
+use Rattle.loader.proofs.Laws.{ran, Upto, upto-start, step-all, over-yes, over-no}
+use Rattle.loader.specs.Loading.{firstOver, isOver}
 use borrow.Author.Needs.{needs}
 use denote.Ref.{now}
 use native.Mathlib.Omega.{arith}

@@ -1,8 +1,8 @@
-use Rattle.loader.specs.Show.{headed}
+use Rattle.show_file.specs.Show.{headed}
 use borrow.Author.Tests.{eq-eqb, ne-eqb, le-leb, lt-leb}
 use borrow.Author.Needs.{needs}
-use Rattle.loader.proofs.header_of.Statement.{statement}
-use Rattle.loader.proofs.header_of.Tie as tie
+use Rattle.show_file.proofs.header_of.Statement.{statement}
+use Rattle.show_file.proofs.header_of.Tie as tie
 
 returns-4 : tie.Need-returns-4
 unfolding headed

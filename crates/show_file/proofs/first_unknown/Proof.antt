@@ -1,12 +1,12 @@
-use Rattle.loader.proofs.Laws.{handed-is, from-start, from-yes, from-no, from-end, unknown-is}
-use Rattle.loader.specs.Loading.{firstFrom, firstUnknown, isUnknown}
+use Rattle.show_file.proofs.Laws.{handed-is, from-start, from-yes, from-no, from-end, unknown-is}
+use Rattle.show_file.specs.Show.{firstFrom, firstUnknown, isUnknown}
 use borrow.Author.Needs.{needs}
 use denote.Ref.{now}
 use Prim.Native.Nat.{_≤_, _-_}
 use mathlib.Core.Bool.{true, false}
 use mathlib.Core.Path.{_≡_}
-use Rattle.loader.proofs.first_unknown.Statement.{statement}
-use Rattle.loader.proofs.first_unknown.Tie as tie
+use Rattle.show_file.proofs.first_unknown.Statement.{statement}
+use Rattle.show_file.proofs.first_unknown.Tie as tie
 
 abbrev Inv-loop : tie.InvT-loop
 Inv-loop file n k₀ k = (k ≤ n) × (firstUnknown file n ≡ firstFrom (isUnknown file) (n - k) k)

@@ -1,17 +1,17 @@
 -- The show file: mark, version, origin, count, then the records (document 01, 'Show file').
 -- Definitions only.
-use Prim.Native.Nat.{ℕ, _+_, _*_}
+use Prim.Native.Nat.{ℕ, zero, suc, _+_, _*_}
 use mathlib.Core.Bool.{Bool}
 use mathlib.Core.List.{List}
 use lib.Dec.{eqb, leb}
 use lib.ListN.{length, take, drop}
 use Rattle.mrc_compiler.specs.declared.encoder.InstructionData.{InstructionData}
-use Rattle.mrc_compiler.specs.Choose.{pick, both}
-use Rattle.records.specs.Record.{recordLength, byteAt, instructionAt}
-use Rattle.loader.specs.declared.Header.{Header}
-use Rattle.loader.specs.declared.LoadError.the-variants as E
-use Rattle.loader.specs.declared.Opened.{Opened}
-use Rattle.loader.specs.declared.Opened.the-variants as O
+use Rattle.mrc_compiler.specs.Choose.{pick, both, isnt}
+use Rattle.records.specs.Record.{recordLength, byteAt, instructionAt, codesKnown}
+use Rattle.show_file.specs.declared.Header.{Header}
+use Rattle.show_file.specs.declared.LoadError.the-variants as E
+use Rattle.show_file.specs.declared.Opened.{Opened}
+use Rattle.show_file.specs.declared.Opened.the-variants as O
 
 -- ---- the header
 abbrev pub versionPlace : ℕ
@@ -66,3 +66,15 @@ headed file =
 
 unfoldable pub opened : List ℕ → Opened
 opened file = pick (hasMark file) (headed file) (O.Refused E.NoMark)
+
+-- ---- the first of records i, i + 1 .. (k of them) where f says yes, or i + k
+abbrev pub firstFrom : (ℕ → Bool) → ℕ → ℕ → ℕ
+firstFrom f zero i = i
+firstFrom f (suc k) i = pick (f i) i (firstFrom f k (suc i))
+
+-- a code that is not known
+unfoldable pub isUnknown : List ℕ → ℕ → Bool
+isUnknown file k = isnt (codesKnown (recordAt file k))
+
+abbrev pub firstUnknown : List ℕ → ℕ → ℕ
+firstUnknown file n = firstFrom (isUnknown file) n 0

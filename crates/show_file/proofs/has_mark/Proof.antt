@@ -1,8 +1,8 @@
-use Rattle.loader.specs.Show.{hasMark}
+use Rattle.show_file.specs.Show.{hasMark}
 use borrow.Author.Tests.{eq-eqb, ne-eqb}
 use borrow.Author.Needs.{needs}
-use Rattle.loader.proofs.has_mark.Statement.{statement}
-use Rattle.loader.proofs.has_mark.Tie as tie
+use Rattle.show_file.proofs.has_mark.Statement.{statement}
+use Rattle.show_file.proofs.has_mark.Tie as tie
 
 pub has-mark-spec : {M : Type 1} → statement M
 unfolding hasMark

@@ -1,8 +1,8 @@
-use Rattle.loader.specs.Show.{opened}
+use Rattle.show_file.specs.Show.{opened}
 use mathlib.Core.Path.{sym, _∙_}
 use borrow.Author.Needs.{needs}
-use Rattle.loader.proofs.open.Statement.{statement}
-use Rattle.loader.proofs.open.Tie as tie
+use Rattle.show_file.proofs.open.Statement.{statement}
+use Rattle.show_file.proofs.open.Tie as tie
 
 pub open-spec : {M : Type 1} → statement M
 unfolding opened

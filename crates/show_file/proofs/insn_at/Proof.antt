@@ -1,8 +1,8 @@
-use Rattle.loader.proofs.Laws.{handed-is}
+use Rattle.show_file.proofs.Laws.{handed-is}
 use denote.Ref.{now}
 use borrow.Author.Needs.{needs}
-use Rattle.loader.proofs.insn_at.Statement.{statement}
-use Rattle.loader.proofs.insn_at.Tie as tie
+use Rattle.show_file.proofs.insn_at.Statement.{statement}
+use Rattle.show_file.proofs.insn_at.Tie as tie
 
 pub insn-at-spec : {M : Type 1} → statement M
 insn-at-spec =

@@ -1,7 +1,7 @@
-use Rattle.loader.specs.Show.{u16At}
+use Rattle.show_file.specs.Show.{u16At}
 use borrow.Author.Needs.{needs}
-use Rattle.loader.proofs.u16_at.Statement.{statement}
-use Rattle.loader.proofs.u16_at.Tie as tie
+use Rattle.show_file.proofs.u16_at.Statement.{statement}
+use Rattle.show_file.proofs.u16_at.Tie as tie
 
 pub u16-at-spec : {M : Type 1} → statement M
 unfolding u16At

@@ -1,0 +1,168 @@
+// The show file: its header and records, and the questions about the file itself (document 01, 'Show file').
+ghost use mathlib.Core.Path.{_≡_};
+ghost use Prim.Native.Nat.{_<_, _≤_};
+ghost use lib.ListN.{length};
+ghost use Rattle.mrc_compiler.specs.Refusals.{reportOf};
+ghost use Rattle.show_file.specs.Refusals.{numberOf};
+ghost use Rattle.show_file.specs.Show.{u16At, hasMark, headed, opened, recordPlace, insnAt, firstUnknown, mostRecords};
+use mrc_compiler::encoder::EncodeError;
+use mrc_compiler::encoder::InstructionData;
+
+pub struct Header {
+    pub version: u16,
+    pub origin: u16,
+    pub count: u16,
+}
+
+pub enum LoadError {
+    // 12.
+    NoMark,
+
+    // 13.
+    WrongVersion,
+
+    // 14: the header is cut short, the count too high, or the file not of its count's length.
+    WrongLength,
+
+    // 15, with the first such record.
+    UnknownCode(usize),
+
+    // The encoder's refusal of this record; 9 for the first that the image does not hold.
+    Record(usize, EncodeError),
+}
+
+// Document 01's number of the encoder's refusal.
+fn number_of(error: EncodeError) -> u8
+    ensures { λ r. ⌜ r ≡ reportOf error .number ⌝ }
+{
+    match error {
+        EncodeError::InvalidOperands(_) => 1,
+        EncodeError::OperandSizeNotSpecified(_) => 2,
+        EncodeError::OperandSizesDoNotMatch(_) => 3,
+        EncodeError::InvalidOperandSize(_) => 4,
+        EncodeError::ImmediateOutOfRange(_, _, _, _) => 5,
+        EncodeError::RelativeJumpOutOfRange(_, _, _, _) => 6,
+        EncodeError::NotSupported(_) => 7,
+        EncodeError::NotWellFormed(_) => 8,
+        EncodeError::SliceTooShort(_) => 9,
+    }
+}
+
+impl LoadError {
+    // Document 01's number.
+    pub fn number(self) -> u8
+        ensures { λ r. ⌜ r ≡ numberOf self ⌝ }
+    {
+        match self {
+            LoadError::NoMark => 12,
+            LoadError::WrongVersion => 13,
+            LoadError::WrongLength => 14,
+            LoadError::UnknownCode(_) => 15,
+            LoadError::Record(_, e) => number_of(e),
+        }
+    }
+}
+
+pub enum Opened {
+    Show(Header),
+    Refused(LoadError),
+}
+
+const HEADER_LENGTH: usize = 9;
+
+const MOST_RECORDS: u16 = 1000;
+
+fn has_mark(file: &[u8]) -> bool
+    ensures { λ r. ⌜ r ≡ hasMark (now (file .entry)) ⌝ }
+{
+    if records::byte_at(file, 0) != 0x46 {
+        return false;
+    }
+    if records::byte_at(file, 1) != 0x53 {
+        return false;
+    }
+    records::byte_at(file, 2) == 0x51
+}
+
+fn u16_at(file: &[u8], at: usize) -> u16
+    requires { ⌜ at ≤ 7 ⌝ }
+    ensures { λ r. ⌜ r ≡ u16At (now (file .entry)) at ⌝ }
+{
+    records::byte_at(file, at) as u16 + 256 * records::byte_at(file, at + 1) as u16
+}
+
+// The questions behind the mark.
+fn header_of(file: &[u8]) -> Opened
+    ensures { λ r. ⌜ r ≡ headed (now (file .entry)) ⌝ }
+{
+    if file.len() < HEADER_LENGTH {
+        return Opened::Refused(LoadError::WrongLength);
+    }
+    let version = u16_at(file, 3);
+    let origin = u16_at(file, 5);
+    let count = u16_at(file, 7);
+    if version != 1 {
+        return Opened::Refused(LoadError::WrongVersion);
+    }
+    if MOST_RECORDS < count {
+        return Opened::Refused(LoadError::WrongLength);
+    }
+    if file.len() != HEADER_LENGTH + records::RECORD_LENGTH * count as usize {
+        return Opened::Refused(LoadError::WrongLength);
+    }
+    Opened::Show(Header {
+        version,
+        origin,
+        count,
+    })
+}
+
+// The questions about the file itself.
+pub fn open(file: &[u8]) -> Opened
+    ensures { λ r. ⌜ r ≡ opened (now (file .entry)) ⌝ }
+{
+    if has_mark(file) {
+        header_of(file)
+    } else {
+        Opened::Refused(LoadError::NoMark)
+    }
+}
+
+// Where record k begins.
+fn place_of(k: usize) -> usize
+    requires { ⌜ k ≤ mostRecords ⌝ }
+    ensures { λ r. ⌜ r ≡ recordPlace k ⌝ }
+{
+    HEADER_LENGTH + records::RECORD_LENGTH * k
+}
+
+// Record k of n.
+pub fn insn_at(file: &[u8], n: usize, k: usize) -> InstructionData
+    requires { ⌜ (length (now file) ≡ recordPlace n) × (n ≤ mostRecords) × (k < n) ⌝ }
+    ensures { λ r. ⌜ r ≡ insnAt (now (file .entry)) k ⌝ }
+{
+    let from = place_of(k);
+    let to = from + records::RECORD_LENGTH;
+    let rec = &file[from..to];
+    records::instruction_at(rec)
+}
+
+// The first record with a code that is not known, or n.
+pub fn first_unknown(file: &[u8], n: usize) -> usize
+    requires { ⌜ (length (now file) ≡ recordPlace n) × (n ≤ mostRecords) ⌝ }
+    ensures { λ r. ⌜ r ≡ firstUnknown (now (file .entry)) n ⌝ }
+{
+    let mut k = 0;
+    while k < n {
+        let from = place_of(k);
+        let to = from + records::RECORD_LENGTH;
+        let rec = &file[from..to];
+        let is_known = records::codes_known(rec);
+        if is_known {
+            k += 1;
+        } else {
+            return k;
+        }
+    }
+    n
+}
