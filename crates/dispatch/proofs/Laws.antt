@@ -16,8 +16,8 @@ use Rattle.answers.specs.Records.{dst, src}
 use Rattle.answers.specs.Choice.{formsOf}
 use Rattle.answers.specs.Blocks.{block}
 use Rattle.answers.proofs.Operations.{in-table}
+use Rattle.lines.specs.Lines.{planned}
 use Rattle.plans.specs.Plans.{planOf}
-use Rattle.plans.specs.Lines.{planned}
 use Rattle.plans.specs.Decisions.{decisionIn}
 use Rattle.plans.proofs.Decided.{decided}
 

@@ -4,10 +4,10 @@ ghost use Rattle.answers.specs.Records.{dst, src};
 ghost use Rattle.plans.specs.Decisions.{decisionIn};
 ghost use Rattle.plans.specs.Plans.{planOf};
 use groups::Group;
+use lines::Decision;
+use lines::Line;
 use mrc_compiler::encoder::InstructionData;
 use mrc_compiler::encoder::generate::Plan;
-use plans::Decision;
-use plans::Line;
 
 // The form that a record takes, or the refusal: the group's function.
 pub fn decide(group: Group, insn: InstructionData) -> Decision
@@ -43,7 +43,7 @@ pub fn decide(group: Group, insn: InstructionData) -> Decision
         Group::Xlat => group_transfer::encode_group_xlat(dst, src),
         Group::In => group_transfer::encode_group_in(dst, src),
         Group::Out => group_transfer::encode_group_out(dst, src),
-        Group::Unsupported => plans::plain(Line::LeftOpen),
+        Group::Unsupported => lines::plain(Line::LeftOpen),
     }
 }
 
@@ -55,5 +55,5 @@ pub fn plan_of(insn: InstructionData) -> Plan
     let grouped = groups::group_of(operation);
     let group = grouped.group;
     let base = grouped.base;
-    plans::plan_for(decide(group, insn), base)
+    lines::plan_for(decide(group, insn), base)
 }

@@ -6,16 +6,16 @@ ghost use lib.Dec.{eqb};
 ghost use lib.IntN.{pos, negsuc};
 ghost use Rattle.mrc_compiler.specs.Values.{within};
 ghost use Rattle.groups.specs.declared.Group.the-variants as G;
-ghost use Rattle.plans.specs.declared.Line.the-variants as L;
+ghost use Rattle.lines.specs.declared.Line.the-variants as L;
 ghost use Rattle.plans.specs.Decisions.{byData, addForm, rmForm, testForm, incForm, shiftBy, decisionIn};
+use lines::Decision;
+use lines::Line;
 use mrc_compiler::ast::DataSize;
 use mrc_compiler::ast::OptionDataSize;
 use mrc_compiler::encoder;
 use mrc_compiler::encoder::OperandData;
 use mrc_compiler::encoder::OperandKind;
 use plans::Common;
-use plans::Decision;
-use plans::Line;
 
 // A word immediate that is a signed byte takes 83.
 fn takes_byte(size: DataSize, value: i32) -> bool
@@ -79,8 +79,8 @@ pub fn encode_group_add_or_adc_sbb_and_sub_xor_cmp(dst: OperandData, src: Operan
             let line = add_form(dst_kind, src_kind, acc, short);
             Decision { line, size }
         },
-        Common::NotSpecified => plans::plain(Line::SizeNotSpecified),
-        Common::DoNotMatch => plans::plain(Line::SizesDoNotMatch),
+        Common::NotSpecified => lines::plain(Line::SizeNotSpecified),
+        Common::DoNotMatch => lines::plain(Line::SizesDoNotMatch),
     }
 }
 
@@ -102,7 +102,7 @@ pub fn encode_group_not_neg_mul_imul_div_idiv(dst: OperandData, src: OperandData
     let dst_size = dst.size;
     let dst_kind = dst.kind;
     match plans::stated_size(dst_size) {
-        OptionDataSize::None => plans::plain(Line::SizeNotSpecified),
+        OptionDataSize::None => lines::plain(Line::SizeNotSpecified),
         OptionDataSize::Some(size) => {
             let line = rm_form(Line::UnaryRm, dst_kind);
             Decision { line, size }
@@ -154,8 +154,8 @@ pub fn encode_group_test(dst: OperandData, src: OperandData) -> Decision
             let line = test_form(dst_kind, src_kind, al);
             Decision { line, size }
         },
-        Common::NotSpecified => plans::plain(Line::SizeNotSpecified),
-        Common::DoNotMatch => plans::plain(Line::SizesDoNotMatch),
+        Common::NotSpecified => lines::plain(Line::SizeNotSpecified),
+        Common::DoNotMatch => lines::plain(Line::SizesDoNotMatch),
     }
 }
 
@@ -180,7 +180,7 @@ pub fn encode_group_inc_dec(dst: OperandData, src: OperandData) -> Decision
     let dst_size = dst.size;
     let dst_kind = dst.kind;
     match plans::stated_size(dst_size) {
-        OptionDataSize::None => plans::plain(Line::InvalidSize),
+        OptionDataSize::None => lines::plain(Line::InvalidSize),
         OptionDataSize::Some(size) => {
             let line = inc_form(size, dst_kind);
             Decision { line, size }
@@ -220,7 +220,7 @@ pub fn encode_group_rol_ror_rcl_rcr_shl_sal_shr_sar(dst: OperandData, src: Opera
     let src_kind = src.kind;
     let src_size = src.size;
     match plans::stated_size(dst_size) {
-        OptionDataSize::None => plans::plain(Line::SizeNotSpecifiedFirst),
+        OptionDataSize::None => lines::plain(Line::SizeNotSpecifiedFirst),
         OptionDataSize::Some(size) => {
             let one = plans::value_is_one(src.imm);
             let cl = plans::is_cl(src_size, src.rm);

@@ -3,21 +3,21 @@ ghost use mathlib.Core.Path.{_≡_};
 ghost use Prim.Native.Nat.{zero};
 ghost use Rattle.groups.specs.declared.Group.the-variants as G;
 ghost use Rattle.plans.specs.Decisions.{throughForm, callForm, jmpForm, shortForm, intForm, decisionIn};
+use lines::Decision;
+use lines::Line;
 use mrc_compiler::encoder;
 use mrc_compiler::encoder::JumpKind;
 use mrc_compiler::encoder::OperandData;
 use mrc_compiler::encoder::OperandKind;
 use mrc_compiler::encoder::OperandSize;
-use plans::Decision;
-use plans::Line;
 
 pub fn encode_group_ret_retn_retf(num_opers: u8, dst: OperandData, src: OperandData) -> Decision
     ensures { λ r. ⌜ r ≡ decisionIn G.Ret «num_opers» dst src ⌝ }
 {
     if plans::is_zero(num_opers) {
-        plans::plain(Line::Ret)
+        lines::plain(Line::Ret)
     } else {
-        plans::plain(Line::LeftOpen)
+        lines::plain(Line::LeftOpen)
     }
 }
 
@@ -81,7 +81,7 @@ pub fn encode_group_call(dst: OperandData, src: OperandData) -> Decision
     let kind = dst.kind;
     let jmp_kind = dst.jmp_kind;
     let size = dst.size;
-    plans::plain(call_form(kind, jmp_kind, size))
+    lines::plain(call_form(kind, jmp_kind, size))
 }
 
 // word: the immediate is one.
@@ -125,7 +125,7 @@ pub fn encode_group_jmp(dst: OperandData, src: OperandData) -> Decision
     let kind = dst.kind;
     let jmp_kind = dst.jmp_kind;
     let size = dst.size;
-    plans::plain(jmp_form(kind, jmp_kind, size, encoder::value_is_word(dst.imm)))
+    lines::plain(jmp_form(kind, jmp_kind, size, encoder::value_is_word(dst.imm)))
 }
 
 // A distance byte, of no kind or Short; else refused.
@@ -150,7 +150,7 @@ pub fn encode_group_jcc(dst: OperandData, src: OperandData) -> Decision
 {
     let kind = dst.kind;
     let jmp_kind = dst.jmp_kind;
-    plans::plain(short_form(kind, jmp_kind, Line::InvalidFirst))
+    lines::plain(short_form(kind, jmp_kind, Line::InvalidFirst))
 }
 
 pub fn encode_group_loopc(dst: OperandData, src: OperandData) -> Decision
@@ -158,19 +158,19 @@ pub fn encode_group_loopc(dst: OperandData, src: OperandData) -> Decision
 {
     let kind = dst.kind;
     let jmp_kind = dst.jmp_kind;
-    plans::plain(short_form(kind, jmp_kind, Line::InvalidOperands))
+    lines::plain(short_form(kind, jmp_kind, Line::InvalidOperands))
 }
 
 pub fn encode_group_no_operands(dst: OperandData, src: OperandData) -> Decision
     ensures { λ r. ⌜ r ≡ decisionIn G.NoOperands zero dst src ⌝ }
 {
-    plans::plain(Line::Single)
+    lines::plain(Line::Single)
 }
 
 pub fn encode_group_prefixes(dst: OperandData, src: OperandData) -> Decision
     ensures { λ r. ⌜ r ≡ decisionIn G.Prefixes zero dst src ⌝ }
 {
-    plans::plain(Line::Single)
+    lines::plain(Line::Single)
 }
 
 fn int_form(kind: OperandKind) -> Line
@@ -188,17 +188,17 @@ pub fn encode_group_int(dst: OperandData, src: OperandData) -> Decision
     ensures { λ r. ⌜ r ≡ decisionIn G.Int zero dst src ⌝ }
 {
     let kind = dst.kind;
-    plans::plain(int_form(kind))
+    lines::plain(int_form(kind))
 }
 
 pub fn encode_group_aam(dst: OperandData, src: OperandData) -> Decision
     ensures { λ r. ⌜ r ≡ decisionIn G.Aam zero dst src ⌝ }
 {
-    plans::plain(Line::Aam)
+    lines::plain(Line::Aam)
 }
 
 pub fn encode_group_aad(dst: OperandData, src: OperandData) -> Decision
     ensures { λ r. ⌜ r ≡ decisionIn G.Aad zero dst src ⌝ }
 {
-    plans::plain(Line::Aad)
+    lines::plain(Line::Aad)
 }

@@ -3,13 +3,13 @@ ghost use mathlib.Core.Path.{_≡_};
 ghost use Prim.Native.Nat.{zero};
 ghost use Rattle.groups.specs.declared.Group.the-variants as G;
 ghost use Rattle.plans.specs.Decisions.{isAx, sregForm, intoSregForm, movForm, xchgForm, pushForm, popForm, loadForm, xlatForm, portForm, portDecision, decisionIn};
+use lines::Decision;
+use lines::Line;
 use mrc_compiler::ast::DataSize;
 use mrc_compiler::ast::OptionDataSize;
 use mrc_compiler::encoder::OperandData;
 use mrc_compiler::encoder::OperandKind;
 use plans::Common;
-use plans::Decision;
-use plans::Line;
 
 // A segment register is a word.
 fn sreg_form(size: DataSize) -> Line
@@ -98,8 +98,8 @@ pub fn encode_group_mov(dst: OperandData, src: OperandData) -> Decision
             let line = mov_form(size, dst_kind, src_kind, from, into, cs);
             Decision { line, size }
         },
-        Common::NotSpecified => plans::plain(Line::SizeNotSpecified),
-        Common::DoNotMatch => plans::plain(Line::SizesDoNotMatch),
+        Common::NotSpecified => lines::plain(Line::SizeNotSpecified),
+        Common::DoNotMatch => lines::plain(Line::SizesDoNotMatch),
     }
 }
 
@@ -158,8 +158,8 @@ pub fn encode_group_xchg(dst: OperandData, src: OperandData) -> Decision
             let line = xchg_form(dst_kind, src_kind, dst_ax, src_ax);
             Decision { line, size }
         },
-        Common::NotSpecified => plans::plain(Line::SizeNotSpecified),
-        Common::DoNotMatch => plans::plain(Line::SizesDoNotMatch),
+        Common::NotSpecified => lines::plain(Line::SizeNotSpecified),
+        Common::DoNotMatch => lines::plain(Line::SizesDoNotMatch),
     }
 }
 
@@ -191,7 +191,7 @@ pub fn encode_group_push(dst: OperandData, src: OperandData) -> Decision
 {
     let size = dst.size;
     let kind = dst.kind;
-    plans::plain(push_form(kind, plans::is_word(size)))
+    lines::plain(push_form(kind, plans::is_word(size)))
 }
 
 // A word; never CS.
@@ -221,7 +221,7 @@ pub fn encode_group_pop(dst: OperandData, src: OperandData) -> Decision
 {
     let size = dst.size;
     let kind = dst.kind;
-    plans::plain(pop_form(kind, plans::is_word(size), plans::is_cs(dst.rm)))
+    lines::plain(pop_form(kind, plans::is_word(size), plans::is_cs(dst.rm)))
 }
 
 fn load_form(dst: OperandKind, word: bool, src: OperandKind) -> Line
@@ -252,7 +252,7 @@ pub fn encode_group_lea(dst: OperandData, src: OperandData) -> Decision
     let dst_size = dst.size;
     let dst_kind = dst.kind;
     let src_kind = src.kind;
-    plans::plain(load_form(dst_kind, plans::is_word(dst_size), src_kind))
+    lines::plain(load_form(dst_kind, plans::is_word(dst_size), src_kind))
 }
 
 pub fn encode_group_les_lds(dst: OperandData, src: OperandData) -> Decision
@@ -287,7 +287,7 @@ pub fn encode_group_xlat(dst: OperandData, src: OperandData) -> Decision
 {
     let size = dst.size;
     let kind = dst.kind;
-    plans::plain(xlat_form(kind, plans::is_word(size), plans::is_bx(dst.mode, dst.rm)))
+    lines::plain(xlat_form(kind, plans::is_word(size), plans::is_bx(dst.mode, dst.rm)))
 }
 
 // IN and OUT: the accumulator, and a port that is an immediate or DX.
@@ -329,7 +329,7 @@ fn port_decision(by_imm: Line, by_dx: Line, acc: OperandData, port: OperandData)
     let port_size = port.size;
     let port_kind = port.kind;
     match plans::stated_size(acc_size) {
-        OptionDataSize::None => plans::plain(Line::InvalidOperands),
+        OptionDataSize::None => lines::plain(Line::InvalidOperands),
         OptionDataSize::Some(size) => {
             let zero = plans::is_zero(acc.rm);
             let dx = plans::is_dx(port_size, port.rm);

@@ -36,14 +36,14 @@ use Rattle.answers.specs.Rules.{unasked, either-states, ordinary, refusal, isWo
 use Rattle.answers.specs.Blocks.{block}
 use Rattle.answers.specs.Choice.{Choice, none, straight, takes, choose, eitherWay, countBy}
 use Rattle.answers.specs.Questions.{formFound, targetBy, isForm, isSupported}
+use Rattle.lines.specs.declared.Line.{Line}
+use Rattle.lines.specs.declared.Line.the-variants as L
+use Rattle.lines.specs.Lines.{decision, plain, planned}
 use Rattle.plans.specs.declared.Common.{Common}
 use Rattle.plans.specs.declared.Common.the-variants as M
-use Rattle.plans.specs.declared.Line.{Line}
-use Rattle.plans.specs.declared.Line.the-variants as L
 use Rattle.plans.specs.Plans.{choicePlan, refusing, planIn}
-use Rattle.plans.specs.Lines.{planned}
 use Rattle.plans.specs.Sizes.{commonOf, isCl, isDx, isBx}
-use Rattle.plans.specs.Decisions.{byData, decision, plain, byCommon, addForm, testForm, movForm, xchgForm, loadForm, shortForm, takesByte, accDirect, isAx, throughForm, portDecision, decisionIn}
+use Rattle.plans.specs.Decisions.{byData, byCommon, addForm, testForm, movForm, xchgForm, loadForm, shortForm, takesByte, accDirect, isAx, throughForm, portDecision, decisionIn}
 use Rattle.plans.proofs.Laws.{Told, told, both-no, both-swap, kind-no}
 
 -- ---- two operands of one size

@@ -19,24 +19,18 @@ use Rattle.mrc_compiler.specs.Values.{within}
 use Rattle.answers.specs.Rules.{isWord}
 use Rattle.groups.specs.declared.Group.{Group}
 use Rattle.groups.specs.declared.Group.the-variants as G
+use Rattle.lines.specs.declared.Decision.{Decision}
+use Rattle.lines.specs.declared.Line.{Line}
+use Rattle.lines.specs.declared.Line.the-variants as L
+use Rattle.lines.specs.Lines.{decision, plain}
 use Rattle.plans.specs.declared.Common.{Common}
 use Rattle.plans.specs.declared.Common.the-variants as M
-use Rattle.plans.specs.declared.Decision.{Decision}
-use Rattle.plans.specs.declared.Line.{Line}
-use Rattle.plans.specs.declared.Line.the-variants as L
 use Rattle.plans.specs.Sizes.{commonOf, statedSize, isCl, isDx, isBx}
 
 -- ---- the size
 abbrev pub byData : {A : Type 0} → DataSize → A → A → A
 byData Z.Byte b w = b
 byData Z.Word b w = w
-
-abbrev pub decision : Line → DataSize → Decision
-decision l z = record { line = l; size = z }
-
--- a form without a size, or a refusal
-abbrev pub plain : Line → Decision
-plain l = decision l Z.Word
 
 -- the size of two operands
 abbrev pub byCommon : Common → (DataSize → Line) → Decision

@@ -7,7 +7,6 @@ use Rattle.mrc_compiler.specs.declared.encoder.InstructionData.{InstructionData
 use Rattle.mrc_compiler.specs.declared.encoder.OperandData.{OperandData}
 use Rattle.mrc_compiler.specs.declared.encoder.generate.Code.{Code}
 use Rattle.mrc_compiler.specs.declared.encoder.generate.Code.the-variants as C
-use Rattle.mrc_compiler.specs.declared.encoder.generate.Codes.{Codes}
 use Rattle.mrc_compiler.specs.declared.encoder.generate.Plan.{Plan}
 use Rattle.mrc_compiler.specs.declared.encoder.generate.Plan.the-variants as P
 use Rattle.mrc_compiler.specs.declared.encoder.generate.Why.the-variants as W
@@ -22,6 +21,7 @@ use Rattle.groups.specs.Grouping.{groupOf}
 use Rattle.answers.specs.Limits.{Kind, data-byte, data-word, memory-byte, memory-word, sign-extended, vector, port, address, target, segment, byteKind, wordKind}
 use Rattle.answers.specs.Choice.{Choice, none, straight, crossed, choice, formsOf}
 use Rattle.answers.specs.Questions.{Ask, groupAsks, isSupported}
+use Rattle.lines.specs.Lines.{oneCode, twoCodes}
 
 -- ---- a form's codes; i and j say which operands stand in its slots
 -- the code of an immediate: MOV to memory takes negative ones too
@@ -119,13 +119,6 @@ fixed F.+s = []
 fixed F./r = []
 fixed (F./ n) = []
 fixed F.0A = C.Byte 0x0A ∷ []
-
--- one or two codes
-abbrev pub oneCode : Code → Codes
-oneCode c = record { first = c; second = c; count = 1 }
-
-abbrev pub twoCodes : Code → Code → Codes
-twoCodes c d = record { first = c; second = d; count = 2 }
 
 abbrev pub emitting : Code → List Code → Plan
 emitting c [] = P.Emit (oneCode c)

@@ -1,7 +1,7 @@
 use mathlib.Core.Path.{_∙_}
 use borrow.Author.Needs.{needs}
-use Rattle.plans.proofs.plan_for.Statement.{statement}
-use Rattle.plans.proofs.plan_for.Tie as tie
+use Rattle.lines.proofs.plan_for.Statement.{statement}
+use Rattle.lines.proofs.plan_for.Tie as tie
 
 pub plan-for-spec : {M : Type 1} → statement M
 plan-for-spec =

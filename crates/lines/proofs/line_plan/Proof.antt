@@ -1,7 +1,7 @@
 use mathlib.Core.Path.{_∙_}
 use borrow.Author.Needs.{needs}
-use Rattle.plans.proofs.line_plan.Statement.{statement}
-use Rattle.plans.proofs.line_plan.Tie as tie
+use Rattle.lines.proofs.line_plan.Statement.{statement}
+use Rattle.lines.proofs.line_plan.Tie as tie
 
 pub line-plan-spec : {M : Type 1} → statement M
 line-plan-spec =

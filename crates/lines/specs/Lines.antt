@@ -1,4 +1,4 @@
--- The code list of each line of the table, or its refusal, as the code has it. Nobody has to believe it: proofs/Decided shows that the line that a group
+-- The code list of each line of the table, or its refusal, as the code has it. Nobody has to believe it: plans/proofs/Decided shows that the line that a group
 -- decides has the codes of the form that the questions choose.
 -- Definitions only.
 use Prim.Native.Nat.{ℕ, _+_, _*_, _/_, _%_}
@@ -6,14 +6,14 @@ use Rattle.mrc_compiler.specs.declared.ast.DataSize.{DataSize}
 use Rattle.mrc_compiler.specs.declared.ast.DataSize.the-variants as Z
 use Rattle.mrc_compiler.specs.declared.encoder.generate.Code.{Code}
 use Rattle.mrc_compiler.specs.declared.encoder.generate.Code.the-variants as C
+use Rattle.mrc_compiler.specs.declared.encoder.generate.Codes.{Codes}
 use Rattle.mrc_compiler.specs.declared.encoder.generate.Why.the-variants as W
 use Rattle.mrc_compiler.specs.declared.encoder.generate.At.the-variants as At
 use Rattle.mrc_compiler.specs.declared.encoder.generate.Plan.{Plan}
 use Rattle.mrc_compiler.specs.declared.encoder.generate.Plan.the-variants as P
-use Rattle.plans.specs.declared.Line.{Line}
-use Rattle.plans.specs.declared.Line.the-variants as L
-use Rattle.plans.specs.declared.Decision.{Decision}
-use Rattle.plans.specs.Plans.{oneCode, twoCodes}
+use Rattle.lines.specs.declared.Line.{Line}
+use Rattle.lines.specs.declared.Line.the-variants as L
+use Rattle.lines.specs.declared.Decision.{Decision}
 
 -- 0 for a byte, 1 for a word
 abbrev pub bit : DataSize → ℕ
@@ -28,6 +28,13 @@ immediate Z.Word = C.ImmWord 1
 abbrev pub stored : DataSize → Code
 stored Z.Byte = C.ImmSignedByte 1
 stored Z.Word = C.ImmSignedWord 1
+
+-- one or two codes
+abbrev pub oneCode : Code → Codes
+oneCode c = record { first = c; second = c; count = 1 }
+
+abbrev pub twoCodes : Code → Code → Codes
+twoCodes c d = record { first = c; second = d; count = 2 }
 
 -- w is the size's bit, imm and stored are its codes
 abbrev pub linePlan : Line → ℕ → Code → Code → ℕ → Plan
@@ -83,6 +90,13 @@ linePlan L.SizesDoNotMatch w imm stored base = P.Refused W.OperandSizesDoNotMatc
 linePlan L.InvalidSize w imm stored base = P.Refused W.InvalidOperandSize At.First
 linePlan L.TargetOutOfRange w imm stored base = P.Refused W.TargetOutOfRange At.First
 linePlan L.LeftOpen w imm stored base = P.Refused W.NotSupported At.Operands
+
+abbrev pub decision : Line → DataSize → Decision
+decision l z = record { line = l; size = z }
+
+-- a form without a size, or a refusal
+abbrev pub plain : Line → Decision
+plain l = decision l Z.Word
 
 abbrev pub planned : Decision → ℕ → Plan
 planned d base = linePlan (d .line) (bit (d .size)) (immediate (d .size)) (stored (d .size)) base
