@@ -249,7 +249,7 @@ fn read_opcode(prefix: u8, s: &[u8], offset: u16) -> Decoded
         if row == 0 {
             return Decoded::Nothing;
         }
-        let shape = rows::shape_of(row);
+        let shape = shapes::shape_of(row);
         if may_follow(prefix, shape) {
             let class = shape.class;
             let second = rows::has_second(class);

@@ -2,8 +2,8 @@ use mathlib.Core.Path.{sym}
 use lib.ListN.{List·getD-eq-default}
 use Rattle.x86.specs.Rows.{shapes}
 use Rattle.mrc_compiler.proofs.Arms.{past}
-use Rattle.rows.proofs.shape_of.Statement.{statement}
-use Rattle.rows.proofs.shape_of.Tie as tie
+use Rattle.shapes.proofs.shape_of.Statement.{statement}
+use Rattle.shapes.proofs.shape_of.Tie as tie
 
 pub shape-of-spec : {M : Type 1} → statement M
 shape-of-spec =
