@@ -1,74 +1,27 @@
--- Laws of what is emitted. A local holds bits, so what the code reads of an i32 z is `toZ w32 (ofZ w32 z)`.
+-- Laws of what is emitted: the codes of a list, one after the other.
 -- Assumes nothing.
 use mathlib.Core.Path.{_≡_, refl, sym, ap, _∙_, subst}
 use mathlib.Core.Bool.{Bool, true, false, not}
-use mathlib.Core.List.{List, [], _∷_, _++_}
+use mathlib.Core.List.{List}
 use Prim.Native.Nat.{ℕ, zero, suc, _+_, _<_}
 use native.Mathlib.Numerals.{add-one}
 use native.Mathlib.Omega.{arith}
 use lib.Dec.{T, eqb, ltb}
-use lib.IntN.{ℤ, pos, negsuc}
 use borrow.Author.Tests.{ltb-true, ltb-false}
-use mir.Syntax.{w32}
-use mir.Val.{SFits, toZ, ofZ}
-use mir.ValLaws.{toZ-ofZ}
-use Rattle.mrc_compiler.specs.declared.ast.Span.{Span}
-use Rattle.mrc_compiler.specs.declared.encoder.EncodeError.{EncodeError}
-use Rattle.mrc_compiler.specs.declared.encoder.EncodeError.the-variants as E
 use Rattle.mrc_compiler.specs.declared.encoder.InstructionData.{InstructionData}
 use Rattle.mrc_compiler.specs.declared.encoder.generate.Codes.{Codes}
-use Rattle.mrc_compiler.specs.declared.encoder.OperandData.{OperandData}
-use Rattle.mrc_compiler.specs.declared.encoder.OperandSize.the-variants as S
 use Rattle.mrc_compiler.specs.Choose.{pick}
-use Rattle.mrc_compiler.specs.Values.{within, modZ}
-use Rattle.values.specs.declared.Relative.the-variants as L
-use Rattle.values.specs.Distances.{distanceOf, wrapped, relativeOf}
-use Rattle.answers.specs.Layout.{byteOf}
 use Rattle.answers.specs.Answer.{Answer, bytes, refused}
 use Rattle.emitter.specs.declared.ByteRun.{ByteRun}
-use Rattle.emit.specs.declared.Emitted.{Emitted}
-use Rattle.emit.specs.declared.Fields.{Fields}
-use Rattle.emit.specs.declared.Refusal.{Refusal}
-use Rattle.emit.specs.declared.Refusal.the-variants as R
 use Rattle.emitter.specs.Run.{emptyRun, appended}
 use Rattle.emitter.proofs.Laws.{appended-append}
-use Rattle.emit.specs.Emit.{emitted, isRefused, behind, kept, fieldBytes, fieldsBytes, answerBy, answerOf, ranged, relativeByte, joined, codeAnswer, codeAt, countOf, codesAnswer, codesEmitted}
+use Rattle.fields.specs.declared.Fields.{Fields}
+use Rattle.fields.specs.declared.Refusal.{Refusal}
+use Rattle.fields.specs.declared.Refusal.the-variants as R
+use Rattle.fields.specs.Fields.{isRefused, fieldBytes, fieldsBytes, answerBy, answerOf, joined, codeAnswer}
+use Rattle.emit.specs.declared.Emitted.{Emitted}
+use Rattle.emit.specs.Emit.{emitted, behind, kept, codeAt, countOf, codesAnswer, codesEmitted}
 
--- ---- a value in its limits or not: t is what the test answered, x the answer of the fields, bs gives the value's bytes
-module _ (low high value : ℤ) (span : Span) (bs : ℤ → List ℕ) (fl : SFits w32 low) (fh : SFits w32 high) (fv : SFits w32 value) {t : Bool}
-    (e : t ≡ within (toZ w32 (ofZ w32 low)) (toZ w32 (ofZ w32 high)) (toZ w32 (ofZ w32 value))) where
-  read : t ≡ within low high value
-  read = rw (toZ-ofZ w32 low fl, toZ-ofZ w32 high fh, toZ-ofZ w32 value fv) at e
-
-  pub in-limits : {x : Answer} → t ≡ true → x ≡ bytes (bs (toZ w32 (ofZ w32 value))) → x ≡ ranged low high value span (bs value)
-  in-limits h q = rw (sym read ∙ h) (rw (toZ-ofZ w32 value fv) at q)
-
-  pub out-of-limits : {x : Answer} → t ≡ false → x ≡ refused (E.ImmediateOutOfRange span (toZ w32 (ofZ w32 value)) (toZ w32 (ofZ w32 low)) (toZ w32 (ofZ w32 high))) → x ≡ ranged low high value span (bs value)
-  out-of-limits h p = rw (sym read ∙ h) (rw (toZ-ofZ w32 low fl, toZ-ofZ w32 high fh, toZ-ofZ w32 value fv) at p)
-
--- ---- a distance byte or the distance refused, as relative_byte answered
-short : (t : Bool) (x b : ℕ) (y : ℤ) (a : Answer) → pick t (L.Short x) (L.Far y) ≡ L.Short b → pick t (bytes (x ∷ [])) a ≡ bytes (b ∷ [])
-short true x b y a h = let q : x ≡ b = cc in rw q
-short false x b y a h = let z : _≡_ {A = ℕ} 0 1 = cc in absurd (omega arith)
-
-far : (t : Bool) (x : ℕ) (y d : ℤ) (a : Answer) (error : ℤ → EncodeError) → pick t (L.Short x) (L.Far y) ≡ L.Far d → pick t a (refused (error y)) ≡ refused (error d)
-far true x y d a error h = let z : _≡_ {A = ℕ} 0 1 = cc in absurd (omega arith)
-far false x y d a error h = let q : y ≡ d = cc in rw q
-
-module _ (o : OperandData) (off size : ℕ) where
-  pub relative-short : {b : ℕ} → relativeOf (distanceOf (o .imm) off size) ≡ L.Short b → relativeByte o off size ≡ bytes (b ∷ [])
-  unfolding relativeByte
-  relative-short {b} h =
-      let d = distanceOf (o .imm) off size in
-      short (within (negsuc 127) (pos 127) d) (modZ 256 d) b (wrapped d) (refused (E.RelativeJumpOutOfRange (o .span) S.Byte true (wrapped d))) h
-
-  pub relative-far : {f : ℤ} → relativeOf (distanceOf (o .imm) off size) ≡ L.Far f → relativeByte o off size ≡ refused (E.RelativeJumpOutOfRange (o .span) S.Byte true f)
-  unfolding relativeByte
-  relative-far {f} h =
-      let d = distanceOf (o .imm) off size in
-      far (within (negsuc 127) (pos 127) d) (modZ 256 d) (wrapped d) f (bytes (byteOf d)) (λ z. E.RelativeJumpOutOfRange (o .span) S.Byte true z) h
-
--- ---- the codes of a list, one after the other
 -- four fields, one after the other
 pub four-fields : (run : ByteRun) (f : Fields) → appended (appended (appended (appended run (fieldBytes (f .prefix))) (fieldBytes (f .opcode))) (fieldBytes (f .modrm))) (fieldBytes (f .value)) ≡ appended run (fieldsBytes f)
 four-fields run f = rw (appended-append run (fieldBytes (f .prefix)), appended-append (appended run (fieldBytes (f .prefix))) (fieldBytes (f .opcode)), appended-append (appended (appended run (fieldBytes (f .prefix))) (fieldBytes (f .opcode))) (fieldBytes (f .modrm)))

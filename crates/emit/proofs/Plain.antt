@@ -8,12 +8,12 @@ use Rattle.mrc_compiler.proofs.encoder.generate.Code as C
 use Rattle.mrc_compiler.proofs.encoder.generate.Code.Laws as C′
 use Rattle.mrc_compiler.proofs.encoder.generate.Codes as L
 use Rattle.mrc_compiler.proofs.encoder.generate.Codes.Laws as L′
-use Rattle.emit.proofs.Field as F
-use Rattle.emit.proofs.Field.Laws as F′
-use Rattle.emit.proofs.Fields as Fs
-use Rattle.emit.proofs.Fields.Laws as Fs′
-use Rattle.emit.proofs.Refusal as R
-use Rattle.emit.proofs.Refusal.Laws as R′
+use Rattle.fields.proofs.Field as F
+use Rattle.fields.proofs.Field.Laws as F′
+use Rattle.fields.proofs.Fields as Fs
+use Rattle.fields.proofs.Fields.Laws as Fs′
+use Rattle.fields.proofs.Refusal as R
+use Rattle.fields.proofs.Refusal.Laws as R′
 use Rattle.emit.proofs.Emitted as E
 use Rattle.emit.proofs.Emitted.Laws as E′
 

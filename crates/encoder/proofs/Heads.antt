@@ -18,7 +18,7 @@ use Rattle.answers.specs.Answer.{bytes}
 use Rattle.answers.proofs.Slots.{Field, placeOf, laid, Bounded}
 use Rattle.answers.proofs.Arrangements.{Arranged, bare, adjust, branch, address-first, address-second, bx-al, rm-digit, rm-reg, reg-rm, low3-first, low3-second, segment}
 use Rattle.plans.specs.Plans.{head, fixed, inLow3}
-use Rattle.emit.specs.Emit.{operand, other, codeAnswer, modRmByte, modRegRm}
+use Rattle.fields.specs.Fields.{operand, other, codeAnswer, modRmByte, modRegRm}
 use Rattle.encoder.proofs.Joins.{listed}
 use Rattle.encoder.proofs.Tails.{behind, codes, isLow3}
 

@@ -15,7 +15,7 @@ use Rattle.answers.specs.Limits.{Asked, asked}
 use Rattle.answers.specs.Questions.{Ask, withSpan, errorOf}
 use Rattle.answers.specs.Answer.{First, all-yes, no, firstNo, Answer, bytes, refused, answered}
 use Rattle.plans.specs.Plans.{emitting, refusing}
-use Rattle.emit.specs.Emit.{joined, codeAnswer}
+use Rattle.fields.specs.Fields.{joined, codeAnswer}
 use Rattle.encoder.specs.Coded.{planAnswer}
 
 -- ---- two answers

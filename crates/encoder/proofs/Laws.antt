@@ -23,8 +23,8 @@ use Rattle.answers.specs.Answer.{Answer, bytes, refused, answer, outcome, slice
 use Rattle.answers.proofs.Accepted.{accepted-reads}
 use Rattle.plans.specs.Plans.{planOf}
 use Rattle.emitter.specs.declared.ByteRun.{ByteRun}
+use Rattle.fields.specs.declared.Refusal.the-variants as R
 use Rattle.emit.specs.declared.Emitted.{Emitted}
-use Rattle.emit.specs.declared.Refusal.the-variants as R
 use Rattle.emitter.specs.Run.{emptyRun, pushed, appended}
 use Rattle.emit.specs.Emit.{emitted}
 use Rattle.encoder.specs.Coded.{planAnswer, coded}

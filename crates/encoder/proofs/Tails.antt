@@ -28,7 +28,7 @@ use Rattle.answers.specs.Answer.{firstNo, Answer, answered, bytes}
 use Rattle.answers.proofs.Operands.{mem-taken, mem-in-rm, taken-in-rm, taken-reg, taken-seg, taken-mem}
 use Rattle.answers.proofs.Slots.{Field, in-rm, in-reg, in-low3, in-bits34, by-address, by-bx-al, distance, elsewhere, field, placeOf, Bounded}
 use Rattle.plans.specs.Plans.{immediateCode, tail, inLow3}
-use Rattle.emit.specs.Emit.{ranged, operand, codeAnswer, joined, immediateByte, immediateWord, relativeByte, relativeWord}
+use Rattle.fields.specs.Fields.{ranged, operand, codeAnswer, joined, immediateByte, immediateWord, relativeByte, relativeWord}
 use Rattle.encoder.proofs.Joins.{joined-nil, first-asked, asked-joined, listed}
 
 -- ---- what the codes of a slot go by: how it names memory, and the immediate bytes that it takes

@@ -37,7 +37,7 @@ use Rattle.answers.proofs.ReadBack.{ArrangedForm}
 use Rattle.answers.proofs.Meanings.{all-at}
 use Rattle.answers.proofs.Operations.{by-operation}
 use Rattle.plans.specs.Plans.{tail, head, fixed, formPlan, choicePlan, refusing, planOf}
-use Rattle.emit.specs.Emit.{joined, operand, other}
+use Rattle.fields.specs.Fields.{joined, operand, other}
 use Rattle.encoder.specs.Coded.{planAnswer, coded}
 use Rattle.encoder.proofs.Joins.{asked-joined, listed, listed-append, emits, refuses}
 use Rattle.encoder.proofs.Tails.{behind, codes, kindFits, SlotTied, slot-tied}

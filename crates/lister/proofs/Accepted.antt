@@ -16,8 +16,8 @@ use Rattle.x86.specs.Reading.{reads}
 use Rattle.answers.specs.Answer.{Answer, bytes, refused, answer}
 use Rattle.answers.proofs.Accepted.{accepted-reads}
 use Rattle.emitter.specs.declared.ByteRun.{ByteRun}
+use Rattle.fields.specs.declared.Refusal.the-variants as R
 use Rattle.emit.specs.declared.Emitted.{Emitted}
-use Rattle.emit.specs.declared.Refusal.the-variants as R
 use Rattle.emitter.specs.Run.{emptyRun, appended}
 use Rattle.emit.specs.Emit.{emitted}
 use Rattle.listing.specs.Entries.{entries, listing}

@@ -18,8 +18,8 @@ use Rattle.mrc_compiler.specs.Choose.{pick, both}
 use Rattle.answers.specs.Answer.{Answer, bytes, refused}
 use Rattle.answers.proofs.Outcomes.{Short, answer-short}
 use Rattle.emitter.specs.Run.{emptyRun}
+use Rattle.fields.specs.declared.Refusal.the-variants as R
 use Rattle.emit.specs.declared.Emitted.{Emitted}
-use Rattle.emit.specs.declared.Refusal.the-variants as R
 use Rattle.emit.specs.Emit.{emitted}
 use Rattle.show_file.specs.declared.Header.{Header}
 use Rattle.show_file.specs.declared.LoadError.{LoadError}

@@ -39,11 +39,11 @@ use Rattle.emitter.proofs.empty_run.Symbol as empty-def
 use Rattle.emitter.proofs.empty_run.Symbol.{name as #empty}
 use Rattle.emitter.proofs.empty_run.Met as empty-thm
 use Rattle.emit.specs.declared.Emitted.{Emitted}
-use Rattle.emit.specs.declared.Refusal.{Refusal}
+use Rattle.fields.specs.declared.Refusal.{Refusal}
 use Rattle.emit.specs.Emit.{kept, codesEmitted}
 use Rattle.emit.proofs.Laws.{codes-kept}
 use Rattle.emit.proofs.Plain.{insn, codes, refusal, emitted}
-use Rattle.emit.proofs.Refusal.Laws as R′
+use Rattle.fields.proofs.Refusal.Laws as R′
 use Rattle.emit.proofs.Emitted.Laws as E′
 use Rattle.emit.proofs.emit_codes as emit-codes
 use Rattle.emit.proofs.emit_codes.Symbol as emit-codes-def

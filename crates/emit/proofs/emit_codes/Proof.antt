@@ -44,18 +44,19 @@ use Rattle.emitter.specs.declared.ByteRun.{ByteRun}
 use Rattle.emitter.specs.Run.{appended}
 use Rattle.emitter.proofs.ByteRun as T
 use Rattle.emitter.proofs.Lent.{number, truth, unit, Sound, own-at, plain-call, plain-told, lent-call, forks, Leaves, leaves, lent-meets, locals, rooms, free-all}
-use Rattle.emit.specs.declared.Field.{Field}
-use Rattle.emit.specs.declared.Fields.{Fields}
+use Rattle.fields.specs.declared.Field.{Field}
+use Rattle.fields.specs.declared.Fields.{Fields}
 use Rattle.emit.specs.declared.Emitted.{Emitted}
-use Rattle.emit.specs.declared.Refusal.{Refusal}
-use Rattle.emit.specs.declared.Refusal.the-variants as N
-use Rattle.emit.specs.Emit.{isRefused, fieldBytes, fieldsBytes, answerOf, codeAnswer, codeAt, countOf, codesEmitted}
+use Rattle.fields.specs.declared.Refusal.{Refusal}
+use Rattle.fields.specs.declared.Refusal.the-variants as N
+use Rattle.fields.specs.Fields.{isRefused, fieldBytes, answerOf, codeAnswer}
+use Rattle.emit.specs.Emit.{codeAt, countOf, codesEmitted}
 use Rattle.emit.proofs.Laws.{firstCodes, four-fields, one-more, stopped, finished}
 use Rattle.emit.proofs.Plain.{insn, code, codes, field, fields, refusal}
-use Rattle.emit.proofs.Fields as Fs
-use Rattle.emit.proofs.Fields.Laws as Fs′
-use Rattle.emit.proofs.Refusal as R
-use Rattle.emit.proofs.Refusal.Laws as R′
+use Rattle.fields.proofs.Fields as Fs
+use Rattle.fields.proofs.Fields.Laws as Fs′
+use Rattle.fields.proofs.Refusal as R
+use Rattle.fields.proofs.Refusal.Laws as R′
 use Rattle.emit.proofs.count_of as count
 use Rattle.emit.proofs.count_of.Symbol as count-def
 use Rattle.emit.proofs.count_of.Symbol.{name as #count}
@@ -64,14 +65,14 @@ use Rattle.emit.proofs.code_at as code-at
 use Rattle.emit.proofs.code_at.Symbol as code-at-def
 use Rattle.emit.proofs.code_at.Symbol.{name as #code-at}
 use Rattle.emit.proofs.code_at.Met as code-at-thm
-use Rattle.emit.proofs.fields_of as fields-of
-use Rattle.emit.proofs.fields_of.Symbol as fields-of-def
-use Rattle.emit.proofs.fields_of.Symbol.{name as #fields-of}
-use Rattle.emit.proofs.fields_of.Met as fields-of-thm
-use Rattle.emit.proofs.is_refused as is-refused
-use Rattle.emit.proofs.is_refused.Symbol as is-refused-def
-use Rattle.emit.proofs.is_refused.Symbol.{name as #is-refused}
-use Rattle.emit.proofs.is_refused.Met as is-refused-thm
+use Rattle.fields.proofs.fields_of as fields-of
+use Rattle.fields.proofs.fields_of.Symbol as fields-of-def
+use Rattle.fields.proofs.fields_of.Symbol.{name as #fields-of}
+use Rattle.fields.proofs.fields_of.Met as fields-of-thm
+use Rattle.fields.proofs.is_refused as is-refused
+use Rattle.fields.proofs.is_refused.Symbol as is-refused-def
+use Rattle.fields.proofs.is_refused.Symbol.{name as #is-refused}
+use Rattle.fields.proofs.is_refused.Met as is-refused-thm
 use Rattle.emit.proofs.emit_field as emit-field
 use Rattle.emit.proofs.emit_field.Symbol as emit-field-def
 use Rattle.emit.proofs.emit_field.Symbol.{name as #emit-field}
@@ -239,6 +240,6 @@ emit-codes-spec 𝓤 H 𝓜 𝓖 𝓡 =
     (meets 𝓤 H (𝓖 .A) (givenOf 𝓤 H 𝓜 𝓖) (𝓜 .mem) (𝓡 .run) (tablesOf 𝓤 H 𝓜 (tables 𝓤 H 𝓜 𝓡 body.env))
     (cited 𝓤 H (tripleOf 𝓤 H (𝓖 .A) count.signature (count.spec 𝓤 H (𝓖 .A) (𝓜 .mem) (𝓡 .run))) 𝓜 𝓡 body.env #count count-def.routine body.calls-emit·count-of (count-thm.met 𝓤 H 𝓜 𝓖 𝓡))
     (cited 𝓤 H (tripleOf 𝓤 H (𝓖 .A) code-at.signature (code-at.spec 𝓤 H (𝓖 .A) (𝓜 .mem) (𝓡 .run))) 𝓜 𝓡 body.env #code-at code-at-def.routine body.calls-emit·code-at (code-at-thm.met 𝓤 H 𝓜 𝓖 𝓡))
-    (cited 𝓤 H (tripleOf 𝓤 H (𝓖 .A) fields-of.signature (fields-of.spec 𝓤 H (𝓖 .A) (𝓜 .mem) (𝓡 .run))) 𝓜 𝓡 body.env #fields-of fields-of-def.routine body.calls-emit·fields-of (fields-of-thm.met 𝓤 H 𝓜 𝓖 𝓡))
-    (cited 𝓤 H (tripleOf 𝓤 H (𝓖 .A) is-refused.signature (is-refused.spec 𝓤 H (𝓖 .A) (𝓜 .mem) (𝓡 .run))) 𝓜 𝓡 body.env #is-refused is-refused-def.routine body.calls-emit·is-refused (is-refused-thm.met 𝓤 H 𝓜 𝓖 𝓡))
+    (cited 𝓤 H (tripleOf 𝓤 H (𝓖 .A) fields-of.signature (fields-of.spec 𝓤 H (𝓖 .A) (𝓜 .mem) (𝓡 .run))) 𝓜 𝓡 body.env #fields-of fields-of-def.routine body.calls-fields·fields-of (fields-of-thm.met 𝓤 H 𝓜 𝓖 𝓡))
+    (cited 𝓤 H (tripleOf 𝓤 H (𝓖 .A) is-refused.signature (is-refused.spec 𝓤 H (𝓖 .A) (𝓜 .mem) (𝓡 .run))) 𝓜 𝓡 body.env #is-refused is-refused-def.routine body.calls-fields·is-refused (is-refused-thm.met 𝓤 H 𝓜 𝓖 𝓡))
     (cited 𝓤 H (tripleOf 𝓤 H (𝓖 .A) emit-field.signature (emit-field.spec 𝓤 H (𝓖 .A) (𝓜 .mem) (𝓡 .run))) 𝓜 𝓡 body.env #emit-field emit-field-def.routine body.calls-emit·emit-field (emit-field-thm.met 𝓤 H 𝓜 𝓖 𝓡)))

@@ -35,20 +35,20 @@ use Rattle.emitter.proofs.ByteRun.emit as emit
 use Rattle.emitter.proofs.ByteRun.emit.Symbol as emit-def
 use Rattle.emitter.proofs.ByteRun.emit.Symbol.{name as #emit}
 use Rattle.emitter.proofs.ByteRun.emit.Met as emit-thm
-use Rattle.emit.specs.declared.Field.{Field}
-use Rattle.emit.specs.declared.Field.the-variants as K
-use Rattle.emit.specs.Emit.{fieldBytes}
-use Rattle.emit.proofs.Field as F
-use Rattle.emit.proofs.Field.Laws as F′
+use Rattle.fields.specs.declared.Field.{Field}
+use Rattle.fields.specs.declared.Field.the-variants as K
+use Rattle.fields.specs.Fields.{fieldBytes}
+use Rattle.fields.proofs.Field as F
+use Rattle.fields.proofs.Field.Laws as F′
 use Rattle.emit.proofs.Plain.{field}
-use Rattle.emit.proofs.low_half as low
-use Rattle.emit.proofs.low_half.Symbol as low-def
-use Rattle.emit.proofs.low_half.Symbol.{name as #low}
-use Rattle.emit.proofs.low_half.Met as low-thm
-use Rattle.emit.proofs.high_half as high
-use Rattle.emit.proofs.high_half.Symbol as high-def
-use Rattle.emit.proofs.high_half.Symbol.{name as #high}
-use Rattle.emit.proofs.high_half.Met as high-thm
+use Rattle.fields.proofs.low_half as low
+use Rattle.fields.proofs.low_half.Symbol as low-def
+use Rattle.fields.proofs.low_half.Symbol.{name as #low}
+use Rattle.fields.proofs.low_half.Met as low-thm
+use Rattle.fields.proofs.high_half as high
+use Rattle.fields.proofs.high_half.Symbol as high-def
+use Rattle.fields.proofs.high_half.Symbol.{name as #high}
+use Rattle.fields.proofs.high_half.Met as high-thm
 use Rattle.emit.proofs.emit_field.Key.{name as #emit-field}
 use Rattle.emit.proofs.emit_field as f
 use Rattle.emit.proofs.emit_field.Statement as stated
@@ -132,5 +132,5 @@ emit-field-spec 𝓤 H 𝓜 𝓖 𝓡 =
     (tables 𝓤 H 𝓜 𝓡 code.env .C) (tables 𝓤 H 𝓜 𝓡 code.env .Λ) #emit-field code.function (code.unfolded 𝓤 H 𝓜 𝓡)
     (meets 𝓤 H (𝓖 .A) (givenOf 𝓤 H 𝓜 𝓖) (𝓜 .mem) (𝓡 .run) (tablesOf 𝓤 H 𝓜 (tables 𝓤 H 𝓜 𝓡 code.env))
     (cited 𝓤 H (tripleOf 𝓤 H (𝓖 .A) emit.signature (emit.spec 𝓤 H (𝓖 .A) (𝓜 .mem) (𝓡 .run))) 𝓜 𝓡 code.env #emit emit-def.routine code.calls-emitter·ByteRun·emit (emit-thm.met 𝓤 H 𝓜 𝓖 𝓡))
-    (cited 𝓤 H (tripleOf 𝓤 H (𝓖 .A) low.signature (low.spec 𝓤 H (𝓖 .A) (𝓜 .mem) (𝓡 .run))) 𝓜 𝓡 code.env #low low-def.routine code.calls-emit·low-half (low-thm.met 𝓤 H 𝓜 𝓖 𝓡))
-    (cited 𝓤 H (tripleOf 𝓤 H (𝓖 .A) high.signature (high.spec 𝓤 H (𝓖 .A) (𝓜 .mem) (𝓡 .run))) 𝓜 𝓡 code.env #high high-def.routine code.calls-emit·high-half (high-thm.met 𝓤 H 𝓜 𝓖 𝓡)))
+    (cited 𝓤 H (tripleOf 𝓤 H (𝓖 .A) low.signature (low.spec 𝓤 H (𝓖 .A) (𝓜 .mem) (𝓡 .run))) 𝓜 𝓡 code.env #low low-def.routine code.calls-fields·low-half (low-thm.met 𝓤 H 𝓜 𝓖 𝓡))
+    (cited 𝓤 H (tripleOf 𝓤 H (𝓖 .A) high.signature (high.spec 𝓤 H (𝓖 .A) (𝓜 .mem) (𝓡 .run))) 𝓜 𝓡 code.env #high high-def.routine code.calls-fields·high-half (high-thm.met 𝓤 H 𝓜 𝓖 𝓡)))
