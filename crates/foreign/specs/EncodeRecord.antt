@@ -8,8 +8,8 @@ use Rattle.mrc_compiler.specs.declared.encoder.InstructionData.{InstructionData
 use Rattle.mrc_compiler.specs.Choose.{pick}
 use Rattle.answers.specs.Answer.{answer, outcome, sliceAfter}
 use Rattle.records.specs.Record.{recordLength, codesKnown, instructionAt}
-use Rattle.foreign.specs.declared.report.Told.{Told}
-use Rattle.foreign.specs.Crossing.{toldAlone, toldEncoded}
+use Rattle.report.specs.declared.Told.{Told}
+use Rattle.report.specs.Crossing.{toldAlone, toldEncoded}
 
 pub data Record : Type 0 where
   wrong-length : Record  -- 14

@@ -1,4 +1,3 @@
-pub mod Crossing
 pub mod EncodeRecord
 pub mod ListRecord
 pub mod LoadShow

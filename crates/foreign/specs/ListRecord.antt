@@ -6,8 +6,8 @@ use Rattle.answers.specs.Answer.{answer}
 use Rattle.lister.specs.declared.Listed.{Listed}
 use Rattle.lister.specs.declared.Listed.the-variants as N
 use Rattle.lister.specs.Listing.{outcome, sliceAfter}
-use Rattle.foreign.specs.declared.report.Told.{Told}
-use Rattle.foreign.specs.Crossing.{toldLength, toldRefusal}
+use Rattle.report.specs.declared.Told.{Told}
+use Rattle.report.specs.Crossing.{toldLength, toldRefusal}
 use Rattle.foreign.specs.EncodeRecord.{Record, toldOf, leftBy}
 
 -- 0 with the number of entries, or the refusal

@@ -19,7 +19,7 @@ use Rattle.forms.specs.declared.FormName.{FormName}
 use Rattle.reader.specs.declared.Decoded.{Decoded}
 use Rattle.reader.specs.declared.Decoded.the-variants.{Whole, Nothing, More}
 use Rattle.x86.specs.Operands.{outlineOf, displacementIn, valueIn, farSegmentIn, sizeNumber}
-use Rattle.foreign.specs.Crossing.{threeBytes}
+use Rattle.report.specs.Crossing.{threeBytes}
 
 -- ES, CS, SS, DS
 abbrev pub segmentNumber : Segment → ℕ

@@ -1,11 +1,11 @@
 // One record of a show file, encoded.
 ghost use mathlib.Core.Path.{_≡_};
-ghost use Rattle.foreign.specs.Crossing.{reportAfter};
+ghost use Rattle.report.specs.Crossing.{reportAfter};
 ghost use Rattle.foreign.specs.EncodeRecord.{recordOf, recordNumber, toldRecord, outAfter};
-use crate::report::Told;
-use crate::report::told_alone;
-use crate::report::told_encoded;
-use crate::report::write_report;
+use report::Told;
+use report::told_alone;
+use report::told_encoded;
+use report::write_report;
 
 // 14 or 15 where the bytes are not a record, else 0.
 pub fn record_number(rec: &[u8]) -> u8

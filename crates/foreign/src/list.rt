@@ -1,15 +1,15 @@
 // All strings of one record's instruction.
 ghost use mathlib.Core.Path.{_≡_};
-ghost use Rattle.foreign.specs.Crossing.{reportAfter};
+ghost use Rattle.report.specs.Crossing.{reportAfter};
 ghost use Rattle.foreign.specs.EncodeRecord.{recordOf};
 ghost use Rattle.foreign.specs.ListRecord.{toldListed, toldListing, listAfter};
 use crate::encode::record_number;
-use crate::report::Told;
-use crate::report::told_alone;
-use crate::report::told_length;
-use crate::report::told_refusal;
-use crate::report::write_report;
 use lister::Listed;
+use report::Told;
+use report::told_alone;
+use report::told_length;
+use report::told_refusal;
+use report::write_report;
 
 // An answer of the lister.
 fn told_listed(listed: Listed) -> Told

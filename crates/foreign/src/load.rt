@@ -2,36 +2,16 @@
 ghost use mathlib.Core.Path.{_≡_};
 ghost use lib.ListN.{length};
 ghost use Rattle.loader.specs.Loading.{loaded, imageAfter};
-ghost use Rattle.foreign.specs.Crossing.{reportAfter};
-ghost use Rattle.foreign.specs.LoadShow.{ofRecord, toldLoadError, toldLoaded};
-use crate::report::Told;
-use crate::report::told_alone;
-use crate::report::told_length;
-use crate::report::told_refusal;
-use crate::report::write_report;
+ghost use Rattle.report.specs.Crossing.{reportAfter};
+ghost use Rattle.foreign.specs.LoadShow.{toldLoadError, toldLoaded};
 use loader::Loaded;
+use report::Told;
+use report::of_record;
+use report::told_alone;
+use report::told_length;
+use report::told_refusal;
+use report::write_report;
 use show_file::LoadError;
-
-// What is told, of record k of a file.
-fn of_record(told: Told, k: usize) -> Told
-    ensures { λ r. ⌜ r ≡ ofRecord told k ⌝ }
-{
-    let number = told.number;
-    let length = told.length;
-    let span = told.span;
-    let value = told.value;
-    let low = told.low;
-    let high = told.high;
-    Told {
-        number,
-        length,
-        span,
-        value,
-        low,
-        high,
-        record: (k % 4294967296) as u32,
-    }
-}
 
 // A refusal of the loader.
 fn told_load_error(error: LoadError) -> Told

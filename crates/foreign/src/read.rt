@@ -5,11 +5,11 @@ ghost use mathlib.Core.List.{_++_};
 ghost use lib.ListN.{length, drop};
 ghost use Rattle.reader.specs.Answer.{decoded};
 ghost use Rattle.foreign.specs.ReadBytes.{segmentIn, extensionNumber, headOf, operandHead, operandValues, readBytes, readNumber, readAfter};
-use crate::report::put_three;
 use forms::Extension;
 use forms::FormName;
 use mrc_compiler::ast::Segment;
 use reader::Decoded;
+use report::put_three;
 use x86::Instruction;
 use x86::Operand;
 

@@ -2,8 +2,8 @@ use mir.ValLaws.{toZ-ofZ}
 use mir.Val.{SFits}
 use mir.Syntax.{w32}
 use borrow.Author.Needs.{needs}
-use Rattle.foreign.proofs.report.told_refusal.Statement.{statement}
-use Rattle.foreign.proofs.report.told_refusal.Tie as tie
+use Rattle.report.proofs.told_refusal.Statement.{statement}
+use Rattle.report.proofs.told_refusal.Tie as tie
 
 returns-5 : tie.Need-returns-5
 returns-5 c = let v : SFits w32 (c .before .e5 .given .0 .1 .0) = search needs in

@@ -12,7 +12,7 @@ use Rattle.mrc_compiler.specs.declared.encoder.Encoded.the-variants as N
 use Rattle.mrc_compiler.specs.Choose.{pick}
 use Rattle.mrc_compiler.specs.Values.{modZ}
 use Rattle.mrc_compiler.specs.Refusals.{Values, none, outside, distance, Report, reportOf}
-use Rattle.foreign.specs.declared.report.Told.{Told}
+use Rattle.report.specs.declared.Told.{Told}
 
 -- ---- numbers
 -- a number modulo 2^32 as four bytes, low byte first
@@ -88,6 +88,18 @@ toldLength n = record {
 abbrev pub toldEncoded : Encoded → Told
 toldEncoded (N.Length n) = toldLength n
 toldEncoded (N.Refused e) = toldRefusal e
+
+-- what is told, of record k of a file
+abbrev pub ofRecord : Told → ℕ → Told
+ofRecord t k = record {
+  number = t .number;
+  length = t .length;
+  span = t .span;
+  value = t .value;
+  low = t .low;
+  high = t .high;
+  «record» = k % 4294967296;
+}
 
 -- ---- the report
 abbrev pub reportLength : ℕ

@@ -1,10 +1,10 @@
-use Rattle.foreign.specs.Crossing.{u32Bytes}
-use Rattle.foreign.proofs.Laws.{four-set}
+use Rattle.report.specs.Crossing.{u32Bytes}
+use Rattle.report.proofs.Laws.{four-set}
 use lib.ListN.{length-set}
 use native.Mathlib.Omega.{arith}
 use borrow.Author.Needs.{needs}
-use Rattle.foreign.proofs.report.put_u32.Statement.{statement}
-use Rattle.foreign.proofs.report.put_u32.Tie as tie
+use Rattle.report.proofs.put_u32.Statement.{statement}
+use Rattle.report.proofs.put_u32.Tie as tie
 
 pub put-u32-spec : {M : Type 1} → statement M
 unfolding u32Bytes

@@ -1,7 +1,7 @@
-use Rattle.foreign.proofs.Laws.{bits-negative, bits-from-zero, below}
+use Rattle.report.proofs.Laws.{bits-negative, bits-from-zero, below}
 use Rattle.values.proofs.Laws.{flip-fits, flip-cast, keep-cast}
-use Rattle.foreign.proofs.report.bits_of.Statement.{statement}
-use Rattle.foreign.proofs.report.bits_of.Tie as tie
+use Rattle.report.proofs.bits_of.Statement.{statement}
+use Rattle.report.proofs.bits_of.Tie as tie
 
 pub bits-of-spec : {M : Type 1} → statement M
 bits-of-spec =

@@ -1,11 +1,11 @@
 use mir.ValLaws.{toZ-ofZ}
 use mir.Val.{SFits}
 use mir.Syntax.{w32}
-use Rattle.foreign.proofs.Laws.{reported}
+use Rattle.report.proofs.Laws.{reported}
 use borrow.Author.Tests.{lt-leb}
 use borrow.Author.Needs.{needs}
-use Rattle.foreign.proofs.report.write_report.Statement.{statement}
-use Rattle.foreign.proofs.report.write_report.Tie as tie
+use Rattle.report.proofs.write_report.Statement.{statement}
+use Rattle.report.proofs.write_report.Tie as tie
 
 returns-2 : tie.Need-returns-2
 returns-2 c = let a = c .before .before .before .before .before .before .before .before .before .before .before .before .before .before .before .before .before .before .before .before .before .args in

@@ -1,10 +1,10 @@
-// The report of 28 bytes that stands beside an answer's number.
+// The report of 28 bytes that stands beside an answer's number, and the fields that cross.
 ghost use mathlib.Core.Path.{_≡_};
 ghost use Prim.Native.Nat.{_+_, _≤_};
 ghost use lib.ListN.{length};
 ghost use lib.Seq.{sets};
 ghost use Rattle.mrc_compiler.specs.Values.{modZ};
-ghost use Rattle.foreign.specs.Crossing.{u32Bytes, threeBytes, toldLength, toldAlone, toldSpan, toldRefusal, toldEncoded, reportAfter};
+ghost use Rattle.report.specs.Crossing.{u32Bytes, threeBytes, toldLength, toldAlone, toldSpan, toldRefusal, toldEncoded, ofRecord, reportAfter};
 use mrc_compiler::ast::Span;
 use mrc_compiler::encoder::EncodeError;
 use mrc_compiler::encoder::Encoded;
@@ -110,6 +110,27 @@ pub fn told_encoded(encoded: Encoded) -> Told
     match encoded {
         Encoded::Length(n) => told_length(n),
         Encoded::Refused(e) => told_refusal(e),
+    }
+}
+
+// What is told, of record k of a file.
+pub fn of_record(told: Told, k: usize) -> Told
+    ensures { λ r. ⌜ r ≡ ofRecord told k ⌝ }
+{
+    let number = told.number;
+    let length = told.length;
+    let span = told.span;
+    let value = told.value;
+    let low = told.low;
+    let high = told.high;
+    Told {
+        number,
+        length,
+        span,
+        value,
+        low,
+        high,
+        record: (k % 4294967296) as u32,
     }
 }
 

@@ -1,6 +1,6 @@
 use borrow.Author.Needs.{needs}
-use Rattle.foreign.proofs.report.told_encoded.Statement.{statement}
-use Rattle.foreign.proofs.report.told_encoded.Tie as tie
+use Rattle.report.proofs.told_encoded.Statement.{statement}
+use Rattle.report.proofs.told_encoded.Tie as tie
 
 pub told-encoded-spec : {M : Type 1} → statement M
 told-encoded-spec =

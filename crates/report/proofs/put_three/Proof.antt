@@ -1,7 +1,7 @@
-use Rattle.foreign.proofs.Laws.{three}
+use Rattle.report.proofs.Laws.{three}
 use borrow.Author.Needs.{needs}
-use Rattle.foreign.proofs.report.put_three.Statement.{statement}
-use Rattle.foreign.proofs.report.put_three.Tie as tie
+use Rattle.report.proofs.put_three.Statement.{statement}
+use Rattle.report.proofs.put_three.Tie as tie
 
 returns : tie.Need-returns
 returns c = three (c .before .before .before .before .before .before .before .before .before .before .before .before .before .args .report .now) (c .before .before .before .before .before .before .before .before .before .before .put-u32 .last .0) (c .before .before .before .before .before .before .put-u322 .last .0) (c .before .before .put-u323 .last .0) (c .before .before .before .before .before .before .before .before .before .before .before .before .before .args .at) (c .before .before .before .before .before .before .before .before .before .before .before .before .before .args .a) (c .before .before .before .before .before .before .before .before .before .before .before .before .before .args .b) (c .before .before .before .before .before .before .before .before .before .before .before .before .before .args .c)
