@@ -6,4 +6,3 @@ pub mod Extend
 pub mod Sizes
 pub mod Rows
 pub mod Unread
-pub mod Lengths

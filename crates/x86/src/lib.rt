@@ -56,47 +56,15 @@ pub enum Read {
     More,
 }
 
-// The bytes of displacement for each mode (eight entries a line) and r/m.
-const DISPLACEMENT_LENGTHS: [u8; 32] = [
-    0,
-    0,
-    0,
-    0,
-    0,
-    0,
-    2,
-    0, //
-    1,
-    1,
-    1,
-    1,
-    1,
-    1,
-    1,
-    1, //
-    2,
-    2,
-    2,
-    2,
-    2,
-    2,
-    2,
-    2, //
-    0,
-    0,
-    0,
-    0,
-    0,
-    0,
-    0,
-    0,
-];
-
 // The bytes of displacement that a ModRM byte's mode and r/m ask for.
 pub fn displacement_length(mode: u8, rm: u8) -> u8
     requires { ⌜ (mode < 4) × (rm < 8) ⌝ }
     ensures { λ r. ⌜ r ≡ displacementLength mode rm ⌝ }
 {
-    let at = mode as usize * 8 + rm as usize;
-    DISPLACEMENT_LENGTHS[at]
+    match mode {
+        0 => if rm == 6 { 2 } else { 0 },
+        1 => 1,
+        2 => 2,
+        _ => 0,
+    }
 }

@@ -1,5 +1,4 @@
-use Rattle.x86.proofs.Lengths.{length-at}
-use borrow.Author.Needs.{needs}
+use borrow.Author.Tests.{ne-eqb}
 use Rattle.x86.proofs.displacement_length.Statement.{statement}
 use Rattle.x86.proofs.displacement_length.Tie as tie
 
@@ -7,5 +6,8 @@ pub displacement-length-spec : {M : Type 1} → statement M
 displacement-length-spec =
     tie.close
     (tie.spec
-    (λ c. search needs) (λ c. search needs) (λ c. search needs)
-    (λ c. length-at (c .args .mode) (c .args .rm) (c .pre .0) (c .pre .1)))
+    (λ c. rw (c .before .match .keys1, c .if1 .taken))
+    (λ c. rw (c .before .match .keys1, ne-eqb _ _ (c .if1 .left)))
+    (λ c. rw (c .match .keys2))
+    (λ c. rw (c .match .keys3))
+    (λ c. rw (ne-eqb _ _ (c .match .rest .0 .0 .1), ne-eqb _ _ (c .match .rest .0 .1), ne-eqb _ _ (c .match .rest .1))))
