@@ -2,8 +2,8 @@
 """make.py > records.fsq
 
 Writes the show that bench/run measures: 1,000 records, so many of each group of document 01, in one fixed shuffled order. Its records are
-accepted by our encoder and by the Rust with equal bytes, so AAM and AAD, which end in A0 there, are left out, and TEST carries its
-immediate in both operands, as the Rust takes the first's.
+accepted by our encoder and by the Rust with equal bytes, so AAM and AAD, which end in A0 there, are left out, and so are the forms of document 02, No. 1, at
+which it panics; TEST carries its immediate in both operands, as the Rust takes the first's.
 
 The length of each record is put together from the SDM's form: prefix, opcode, ModRM, the displacement that mode and r/m ask for, immediate. The offsets
 follow from the lengths, and near branches go to the start of a record within their reach."""

@@ -26,7 +26,7 @@ enum fsq_answer {
     FSQ_INVALID_OPERAND_SIZE = 4,         /* The operation does not take an operand of this size. */
     FSQ_IMMEDIATE_OUT_OF_RANGE = 5,       /* An immediate, address, port or segment is outside low to high; value has it. */
     FSQ_RELATIVE_JUMP_OUT_OF_RANGE = 6,   /* The target is too far for a short jump; value has the distance. */
-    FSQ_NOT_SUPPORTED = 7,                /* The encoder does not have this instruction or form. */
+    FSQ_NOT_SUPPORTED = 7,                /* The encoder does not have this instruction: INT1 or ESC. */
     FSQ_NOT_WELL_FORMED = 8,              /* The operand count is above 2, or an operand's fields contradict each other. */
     FSQ_SLICE_TOO_SHORT = 9,              /* The lent slice is too short for what is to be written. */
     FSQ_NOT_AN_INSTRUCTION = 10,          /* No instruction begins with these bytes, whatever follows them. */
@@ -89,13 +89,14 @@ enum fsq_operand {
 
 enum fsq_kind { FSQ_IMM = 0, FSQ_REG = 1, FSQ_SEG = 2, FSQ_MEM = 3 };
 enum fsq_size { FSQ_UNSPECIFIED = 0, FSQ_BYTE = 1, FSQ_WORD = 2 };
+/* How far a branch goes. JMP without a kind is written as a near one; CALL of kind FSQ_FAR takes its target's offset and segment from memory. */
 enum fsq_jump { FSQ_NO_KIND = 0, FSQ_FAR = 1, FSQ_NEAR = 2, FSQ_SHORT = 3 };
 
 /* Where the fields of a read instruction stand. Its two operands stand at 8 and 16. */
 enum fsq_reading {
     FSQ_READ_LENGTH_AT = 0,      /* u8: bytes of the instruction */
     FSQ_READ_OPERATION_AT = 1,   /* u8: enum fsq_operation */
-    FSQ_READ_WIDTH_AT = 2,       /* u8: enum fsq_size, FSQ_UNSPECIFIED where the form has none */
+    FSQ_READ_WIDTH_AT = 2,       /* u8: enum fsq_size, FSQ_UNSPECIFIED where the form has none, as a far CALL through memory */
     FSQ_READ_OPCODE_AT = 3,      /* u8: the form's opcode, without the register of a +r or +s */
     FSQ_READ_EXTENSION_AT = 4,   /* u8: enum fsq_extension; 8 + n for /n */
     FSQ_READ_FIRST_AT = 8,       /* the first operand, 8 bytes */

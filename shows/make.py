@@ -1,10 +1,11 @@
 #!/usr/bin/env python3
 """make.py DIR writes every show of this folder, and the cases of the gate, to DIR: NAME.fsq, the show file, and NAME.out, what fsqlist has to print.
-make.py --assemble compares the bytes of this folder's shows with those of GNU as.
+make.py --assemble compares the bytes of this folder's shows with those of GNU as and of NASM.
 
-A show stands as text in NAME.txt, a line for each record: the instruction, a bar, and its bytes or 'refused N'. The listing is made from the
-lengths of those bytes alone. Before the records may stand 'origin N', 'version N', 'count N' (where it is not the records') and 'mark BYTES';
-'field NAME N' behind a record sets a byte of it, 'cut N' leaves N bytes of the file, 'more N' adds N zeros. Numbers are decimal."""
+A show stands as text in NAME.txt, a line for each record: the instruction, a bar, and its bytes or 'refused N'. 'far', 'near' or 'short' before an operand
+is its jump kind. The listing is made from the lengths of those bytes alone. Before the records may stand 'origin N', 'version N', 'count N' (where it is
+not the records') and 'mark BYTES'; 'field NAME N' behind a record sets a byte of it, 'cut N' leaves N bytes of the file, 'more N' adds N zeros. Numbers
+are decimal."""
 import pathlib
 import re
 import struct
@@ -24,6 +25,7 @@ SEGMENTS = ['ES', 'CS', 'SS', 'DS']
 BASES = ['BX+SI', 'BX+DI', 'BP+SI', 'BP+DI', 'SI', 'DI', 'BP', 'BX']
 IMM, REG, SEG, MEM = range(4)
 SIZES = {'': 0, 'byte': 1, 'word': 2}
+JUMPS = {'': 0, 'far': 1, 'near': 2, 'short': 3}
 # A record: operation, operand count, span, then each operand: kind, size, prefix, displacement size, jump kind, mode, r/m, imm, displacement, span.
 OPERAND = struct.Struct('<BBBBBBBiiII')
 FIELDS = {'operation': 0, 'count': 1}
@@ -34,6 +36,7 @@ for number, start in (('1', 10), ('2', 33)):
 
 def operand(text):
     kind, size, prefix, disp_size, mode, rm, imm, disp = IMM, 0, 0, 0, 0, 0, 0, 0
+    jump, text = re.fullmatch(r'(far|near|short)? ?(.*)', text).groups(default='')
     memory = re.fullmatch(r'(byte|word)? ?\[(.*)\]', text)
     if text in BYTES:
         kind, size, mode, rm = REG, 1, 3, BYTES.index(text)
@@ -43,7 +46,7 @@ def operand(text):
         kind, size, mode, rm = SEG, 2, 3, SEGMENTS.index(text)
     elif memory:
         kind, size = MEM, SIZES[memory[1] or '']
-        base, disp = re.fullmatch(r'((?:[A-Z]{2}\+?)*?)\+?(\d*)', memory[2]).groups()
+        base, disp = re.fullmatch(r'([A-Z]{2}(?:\+[A-Z]{2})?)?\+?(\d*)', memory[2]).groups()
         disp = int(disp or 0)
         if not base:
             mode, rm, disp_size = 0, 6, 2
@@ -52,7 +55,7 @@ def operand(text):
             mode, disp_size = (0, 0) if disp == 0 and base != 'BP' else (1, 1) if disp < 128 else (2, 2)
     else:
         imm = int(text)
-    return OPERAND.pack(kind, size, prefix, disp_size, 0, mode, rm, imm, disp, 0, 0)
+    return OPERAND.pack(kind, size, prefix, disp_size, JUMPS[jump], mode, rm, imm, disp, 0, 0)
 
 
 def record(text):
@@ -119,7 +122,8 @@ def text_refusal(answers):
     return f'{answer}\n' if answer.endswith('-') else f'refused {number} {k}\n'
 
 
-# ---- the cases of the gate. Bytes and refusals are document 01's (bench sheet, questions, code list) unless another source is named.
+# ---- the cases of the gate. Bytes and refusals are those of document 01 (bench sheet, questions, code list) and of document 02, No. 1, unless another source
+# is named.
 AAM = 'AAM | D4 0A'
 MOV = 'MOV AX,4660 | B8 34 12'
 REFUSED = {
@@ -135,10 +139,15 @@ REFUSED = {
 }
 # the first number that is no code: 99 operations; kinds, sizes and jump kinds from 0
 UNKNOWN = {'operation': 99, 'kind1': 4, 'size1': 3, 'displacement-size1': 3, 'jump1': 4, 'kind2': 4, 'size2': 3, 'displacement-size2': 3, 'jump2': 4}
+# what the forms of document 02, No. 1, turn away
+ADDED_REFUSED = ['TEST BL,300 | refused 5', 'TEST AX,65536 | refused 5', 'TEST [BX],5 | refused 2', 'TEST AX,CL | refused 3', 'TEST AX,DS | refused 1',
+    'PUSH byte [BX] | refused 1', 'PUSH [BX] | refused 1', 'POP byte [BX] | refused 4', 'POP [BX] | refused 4', 'RET -1 | refused 5', 'RET 65536 | refused 5',
+    'RET AX | refused 1', 'RET word [BX] | refused 1', 'CALL far byte [BX] | refused 1', 'CALL far AX | refused 1', 'JMP short 30000 | refused 6',
+    'JMP short -1 | refused 5', 'JMP short 65536 | refused 5', 'JMP short [BX] | refused 1', 'ESC | refused 7']
 
 
 def sampled():
-    """The rows of the Rust's sample: record, is it a branch, offset, and its answer."""
+    """The rows of the sample, the Rust's answers or document 02's: record, is it a branch, offset, and its answer."""
     for row in SAMPLE.read_text().splitlines():
         packed, offset, number, length = row.split()[:4]
         is_branch = FIRST_BRANCH <= int(packed[:2], 16) <= LAST_BRANCH
@@ -151,6 +160,8 @@ def cases():
         yield f'refused-{number}-first', ['origin 256', *bad, MOV, AAM]
         yield f'refused-{number}-middle', ['origin 256', MOV, *bad, AAM]
         yield f'refused-{number}-last', ['origin 256', MOV, AAM, *bad]
+    for k, bad in enumerate(ADDED_REFUSED):
+        yield f'added-refused-{k}', ['origin 65533', MOV, bad, AAM]
     yield 'the-first-refused', [MOV, *REFUSED[5], *REFUSED[7]]
     yield 'codes-before-records', [*REFUSED[5], AAM, *REFUSED[15]]
     for field, code in UNKNOWN.items():
@@ -193,43 +204,67 @@ def cases():
     # immediate - (offset + 3) modulo 65,536, and immediate - (offset + 2) not wrapped
     yield 'wrap-call', ['origin 65534', 'CALL 5 | E8 04 00', AAM]
     yield 'wrap-loop', ['origin 65535', 'LOOP 65535 | E2 FE', 'LOOP 1 | E2 FE']
+    # JMP short asks for its range first, and then for its distance, not wrapped
+    yield 'wrap-short', ['origin 65534', 'JMP short 65535 | EB FF', 'JMP short 0 | EB FE']
+    yield 'wrap-short-not-to-0', ['origin 65534', 'JMP short 0 | refused 6']
+    yield 'wrap-short-not-to-65536', ['origin 65534', 'JMP short 65536 | refused 5']
     # the branches of the sample, each at its own offset
     for k, (packed, is_branch, offset, answer) in enumerate(sampled()):
         if is_branch:
             yield f'branch-{k}', [f'origin {offset}', f'record {packed} {answer}']
 
 
-def assemble(source):
-    """The bytes of a show by GNU as, and those stated. A branch's target is a label where the stated lengths put it; JMP is asked for in its long form."""
-    lines, offset, stated = [], 0, b''
+def stated(source):
+    """The offset, the instruction and the bytes of each line."""
+    offset = 0
     for line in source.splitlines():
         line = line.split('#')[0].strip()
         if line.startswith('origin'):
             offset = int(line.split()[1])
         elif '|' in line and 'refused' not in line:
             instruction, answer = (part.strip() for part in line.split('|'))
-            operation, _, rest = instruction.partition(' ')
-            if FIRST_BRANCH <= OPERATIONS.index(operation) <= LAST_BRANCH and rest.isdigit():
-                instruction = f'{"{disp16} " if operation == "JMP" else ""}{operation} at{rest}'
-            instruction = re.sub(r'\[(\d+)\]', r'ds:[\1]', re.sub(r'\b(byte|word) \[', r'\1 ptr [', instruction))
-            lines.append(f'at{offset}: {instruction}')
-            stated += bytes.fromhex(answer)
+            yield offset, instruction, bytes.fromhex(answer)
             offset += len(bytes.fromhex(answer))
+
+
+def by_as(lines):
+    """GNU as's bytes. A branch's target is a label where the stated lengths put it; JMP without a kind is asked for in its long form."""
+    text = '.code16\n.intel_syntax noprefix\n.text\n'
+    for offset, instruction, _ in lines:
+        operation, _, rest = instruction.partition(' ')
+        if FIRST_BRANCH <= OPERATIONS.index(operation) <= LAST_BRANCH and operation != 'RET':
+            instruction = re.sub(r'\b(\d+)$', r'at\1', instruction)
+            instruction = re.sub(r'^JMP (at)', r'{disp16} JMP \1', instruction).replace('CALL far', 'LCALL')
+        instruction = re.sub(r'\[(\d+)\]', r'ds:[\1]', re.sub(r'\b(byte|word) \[', r'\1 ptr [', instruction))
+        text += f'at{offset}: {instruction}\n'
     with tempfile.TemporaryDirectory() as folder:
         path = pathlib.Path(folder)
-        text = '.code16\n.intel_syntax noprefix\n.text\n' + '\n'.join(lines) + '\n'
         (path / 'a.s').write_text(text)
         subprocess.run(['as', '--32', '-o', path / 'a.o', path / 'a.s'], check=True)
         subprocess.run(['objcopy', '-O', 'binary', '-j', '.text', path / 'a.o', path / 'a.bin'], check=True)
-        return (path / 'a.bin').read_bytes(), stated
+        return (path / 'a.bin').read_bytes()
+
+
+def by_nasm(lines):
+    """NASM's bytes; JMP without a kind is asked for as near, and the conditional jumps as short."""
+    text = f'cpu 8086\nbits 16\norg {lines[0][0]}\n'
+    for _, instruction, _ in lines:
+        text += re.sub(r'^(J\w+) (\d)', r'\1 short \2', re.sub(r'^JMP (\d)', r'JMP near \1', instruction)) + '\n'
+    with tempfile.TemporaryDirectory() as folder:
+        path = pathlib.Path(folder)
+        (path / 'a.asm').write_text(text)
+        subprocess.run(['nasm', '-f', 'bin', '-o', path / 'a.bin', path / 'a.asm'], check=True)
+        return (path / 'a.bin').read_bytes()
 
 
 def main():
     sources = {path.stem: path.read_text() for path in sorted(HERE.glob('*.txt'))}
     if sys.argv[1] == '--assemble':
         for name, source in sources.items():
-            made, stated = assemble(source)
-            print(name, 'as stated' if made == stated else f'differs:\n{made.hex()}\n{stated.hex()}')
+            lines = list(stated(source))
+            written = b''.join(string for _, _, string in lines)
+            for assembler, made in (('as', by_as(lines)), ('nasm', by_nasm(lines))):
+                print(name, f'as stated by {assembler}' if made == written else f'differs from {assembler}:\n{made.hex()}\n{written.hex()}')
         return
     folder = pathlib.Path(sys.argv[1])
     for name, lines in cases():

@@ -1,12 +1,19 @@
 #!/usr/bin/env python3
 """bench_sheet.py > crates/vectors/data/bench_sheet.txt
 bench_sheet.py lists > crates/vectors/data/lists.txt
+bench_sheet.py sample < SAMPLE > crates/vectors/data/sample.txt     (needs nasm 2.16)
 
 Writes the rows that the program `vectors` runs. For the encoder: the bench sheet's rows, the example of 'Show file', and the sentences of
-document 01 that give a record's bytes or refusal; the expected values are document 01's, and a row's name tells the sentence. For the lister: the bench
-sheet's lists, marked 01, and lists put together by hand from the SDM's opcode tables."""
+document 01 and of document 02, No. 1, that give a record's bytes or refusal; the expected values are those documents' and the SDM's, and a row's name tells
+the sentence. For the lister: the bench sheet's lists, marked 01, lists that No. 1 tells of, marked 02, and lists put together by hand from the SDM's opcode tables.
+
+The sample is the Rust's answers as differential/run writes them. Where the Rust panics at `todo!`, 7 stands there; its rows of the forms that No. 1 adds get No. 1's
+refusal or NASM's bytes, and say so in their name. All other rows pass through unchanged."""
+import pathlib
 import struct
+import subprocess
 import sys
+import tempfile
 
 from operations import OPERATIONS
 
@@ -133,22 +140,52 @@ def the_lists():
     lists_memory('MOV byte [SI+1],255', 'MOV', [mem(BYTE, 1, 4, 1), imm(255)], 'C6 0 4 1|FF')
     lists('MOV DS,AX', 'MOV', [seg(3), AX], '8E D8')
     lists('MOV AX,CS', 'MOV', [AX, seg(1)], '8C C8')
-    lists('TEST AL,5', 'TEST', [AL, imm(5)], 'A8 05')
+    lists('02: TEST AL,5', 'TEST', [AL, imm(5)], 'A8 05', 'F6 C0 05')
+    lists('02: TEST AX,5', 'TEST', [AX, imm(5)], 'A9 05 00', 'F7 C0 05 00')
+    lists('TEST BX,5', 'TEST', [BX, imm(5)], 'F7 C3 05 00')
+    lists('TEST CL,255', 'TEST', [CL, imm(255)], 'F6 C1 FF')
+    lists('02: TEST AX,BX keeps its order', 'TEST', [AX, BX], '85 D8')
+    lists('02: TEST BX,AX keeps its order', 'TEST', [BX, AX], '85 C3')
+    lists('TEST CL,CL', 'TEST', [CL, CL], '84 C9')
+    lists_memory('02: TEST [BX],CL', 'TEST', [AT_BX(BYTE), CL], '84 1 7 0')
+    lists_memory('02: TEST CL,[BX], the same', 'TEST', [CL, AT_BX(ANY)], '84 1 7 0')
+    lists_memory('TEST BX,[BP+SI-2]', 'TEST', [BX, mem(WORD, 1, 2, -2)], '85 3 2 -2')
+    lists_memory('TEST CS:[BX],BX', 'TEST', [mem(WORD, 0, 7, 0, 0x2E), BX], '85 3 7 0', prefix=0x2E)
+    lists_memory('TEST byte [BX],5', 'TEST', [AT_BX(BYTE), imm(5)], 'F6 0 7 0|05')
+    lists_memory('TEST word [BP+200],4660', 'TEST', [mem(WORD, 2, 6, 200), imm(4660)], 'F7 0 6 200|34 12')
     lists('XCHG BX,AX', 'XCHG', [BX, AX], '93', '87 C3', '87 D8')
     lists('XCHG CL,AL', 'XCHG', [CL, AL], '86 C1', '86 C8')
     lists('XCHG AX,AX is NOP', 'XCHG', [AX, AX], '90', '87 C0')
     lists('NOP', 'NOP', [], '90', '87 C0')
     lists_memory('XCHG [SI],BX', 'XCHG', [mem(WORD, 0, 4), BX], '87 3 4 0')
-    lists('PUSH AX', 'PUSH', [AX], '50')
+    lists('02: PUSH AX', 'PUSH', [AX], '50', 'FF F0')
     lists('PUSH CS', 'PUSH', [seg(1)], '0E')
-    lists('POP CX', 'POP', [CX], '59')
+    lists_memory('PUSH word [BX]', 'PUSH', [AT_BX(WORD)], 'FF 6 7 0')
+    lists('PUSH word [4660]', 'PUSH', [mem(WORD, 0, 6, 4660)], 'FF 36 34 12', '3E FF 36 34 12')
+    lists('POP AX', 'POP', [AX], '58', '8F C0')
+    lists('POP CX', 'POP', [CX], '59', '8F C1')
+    lists_memory('POP word [BX]', 'POP', [AT_BX(WORD)], '8F 0 7 0')
+    lists_memory('POP word ES:[SI+1]', 'POP', [mem(WORD, 1, 4, 1, 0x26)], '8F 0 4 1', prefix=0x26)
     lists_memory('LEA AX,[BX+SI]', 'LEA', [AX, mem(WORD, 0, 0)], '8D 0 0 0')
     lists_memory('LES BX,[DI]', 'LES', [BX, mem(WORD, 0, 5)], 'C4 3 5 0')
     lists('SHL AX,1', 'SHL', [AX, imm(1)], 'D1 E0')
     lists_memory('SAR byte [BX],CL', 'SAR', [AT_BX(BYTE), CL], 'D2 7 7 0')
     lists('CALL at 0 to 100', 'CALL', [imm(100)], 'E8 61 00')
     lists_memory('CALL [BX]', 'CALL', [AT_BX(WORD)], 'FF 2 7 0')
-    lists('JMP at 65533 to 0', 'JMP', [imm(0)], 'E9 00 00', offset=65533)
+    lists_memory('CALL [BX], Far, is another', 'CALL', [mem(WORD, 0, 7, jump=FAR)], 'FF 3 7 0')
+    lists_memory('CALL [BP+SI+200], Far, no size', 'CALL', [mem(ANY, 2, 2, 200, jump=FAR)], 'FF 3 2 200')
+    # E9 from the third byte behind, EB from the second, both modulo 65,536
+    lists('02: JMP at 0 to 100', 'JMP', [imm(100)], 'EB 62', 'E9 61 00')
+    lists('02: JMP at 0 to 100, Near', 'JMP', [imm(100, NEAR)], 'EB 62', 'E9 61 00')
+    lists('02: JMP at 0 to 100, Short', 'JMP', [imm(100, SHORT)], 'EB 62', 'E9 61 00')
+    lists('JMP at 0 to 129', 'JMP', [imm(129)], 'EB 7F', 'E9 7E 00')
+    lists('JMP at 0 to 130', 'JMP', [imm(130)], 'E9 7F 00')
+    lists('JMP at 256 to 130', 'JMP', [imm(130)], 'EB 80', 'E9 7F FF', offset=256)
+    lists('JMP at 256 to 129', 'JMP', [imm(129)], 'E9 7E FF', offset=256)
+    lists('JMP at 65533 to 0', 'JMP', [imm(0)], 'EB 01', 'E9 00 00', offset=65533)
+    lists('02: JMP at 65534 to 0', 'JMP', [imm(0)], 'EB 00', 'E9 FF FF', offset=65534)
+    lists('JMP at 0 to 65535', 'JMP', [imm(65535)], 'EB FD', 'E9 FC FF')
+    lists_memory('JMP [BX]', 'JMP', [AT_BX(WORD)], 'FF 4 7 0')
     lists('JMP Far', 'JMP', [imm(4660, FAR, 22136)], 'EA 34 12 78 56')
     lists('JE at 256 to 130', 'JE', [imm(130)], '74 80', offset=256)
     lists('LOOP at 261 to 256', 'LOOP', [imm(256)], 'E2 F9', offset=261)
@@ -161,12 +198,17 @@ def the_lists():
     lists('IN AL,DX', 'IN', [AL, DX], 'EC')
     lists('OUT 16,AL', 'OUT', [imm(16), AL], 'E6 10')
     lists('RET', 'RET', [], 'C3')
+    lists('RET 4', 'RET', [imm(4)], 'C2 04 00')
+    lists('02: RET 0 is not RET', 'RET', [imm(0)], 'C2 00 00')
+    lists('WAIT', 'WAIT', [], '9B')
     lists('CLC', 'CLC', [], 'F8')
     lists('REP', 'REP', [], 'F3')
 
     # refused as the encoder refuses
     list_row('01: ADD AX,-1 is 5', record('ADD', [AX, imm(-1)]), 0, 5, [])
     list_row('01: count 3 is 8', record('AAM', [], 3), 0, 8, [])
+    list_row('02: INT1 is 7', record('INT1', []), 0, 7, [])
+    list_row('02: JMP at 65534 to 0, Short, 6', record('JMP', [imm(0, SHORT)]), 65534, 6, [])
 
 
 def the_bench_sheet():
@@ -232,7 +274,6 @@ def the_bench_sheet():
     gives('unused prefix is not written', 'NOT', [AX, mem(BYTE, 0, 7, 0, 0x26)], 'F7 D0')
     gives('XLATB', 'XLATB', [mem(WORD, 0, 7)], 'D7')
     gives('RET', 'RET', [], 'C3')
-    refused('RET, count 1', 'RET', [imm(5)], 7, INSTRUCTION)
     gives('JMP Far', 'JMP', [imm(4660, FAR, 22136)], 'EA 34 12 78 56')
     gives('SHL AX,1', 'SHL', [AX, imm(1)], 'D1 E0')
     gives('SAR byte [BX],CL', 'SAR', [AT_BX(BYTE), CL], 'D2 3F')
@@ -242,13 +283,170 @@ def the_bench_sheet():
     refused('count 3', 'AAM', [], 8, INSTRUCTION, count=3)
     refused('first operand, mode 2', 'AAM', [operand(REG, WORD, 0, 2)], 8, FIRST)
     refused('second operand, prefix 1', 'AAM', [AX, operand(IMM, prefix=1)], 8, SECOND)
-    refused('WAIT', 'WAIT', [], 7, INSTRUCTION)
+    refused('INT1', 'INT1', [], 7, INSTRUCTION)
+    refused('ESC', 'ESC', [], 7, INSTRUCTION)
     refused('NOT with no size', 'NOT', [mem(ANY, 0, 7)], 2, INSTRUCTION)
     refused('INC with no size', 'INC', [mem(ANY, 0, 7)], 4, FIRST)
     refused('ADD AX,CL', 'ADD', [AX, CL], 3, INSTRUCTION)
     refused('POP 5', 'POP', [operand(IMM, WORD, imm=5)], 4, FIRST)
-    refused('PUSH word [BX]', 'PUSH', [AT_BX(WORD)], 7, INSTRUCTION)
     refused('JMP 65536, Short', 'JMP', [imm(65536, SHORT)], 5, FIRST, (65536, 0, 65535))
 
+    # document 02, No. 1: TEST
+    BL = reg(BYTE, 3)
+    gives('TEST AX,BX: second in reg', 'TEST', [AX, BX], '85 D8')
+    gives('TEST BX,AX', 'TEST', [BX, AX], '85 C3')
+    gives('TEST CL,AL', 'TEST', [CL, AL], '84 C1')
+    gives('TEST [BX],CL', 'TEST', [AT_BX(BYTE), CL], '84 0F')
+    gives('TEST CL,[BX], the same', 'TEST', [CL, AT_BX(BYTE)], '84 0F')
+    gives('TEST [BX],CX, unstated', 'TEST', [AT_BX(ANY), CX], '85 0F')
+    gives('TEST CX,[BX], unstated', 'TEST', [CX, AT_BX(ANY)], '85 0F')
+    gives('TEST ES:[BP+SI-2],DX', 'TEST', [mem(WORD, 1, 2, -2, 0x26), DX], '26 85 52 FE')
+    gives('TEST DX,ES:[BP+SI-2]', 'TEST', [DX, mem(WORD, 1, 2, -2, 0x26)], '26 85 52 FE')
+    gives('TEST AL,255', 'TEST', [AL, imm(255)], 'A8 FF')
+    gives('TEST AX,5', 'TEST', [AX, imm(5)], 'A9 05 00')
+    gives('TEST AX,65535', 'TEST', [AX, imm(65535)], 'A9 FF FF')
+    gives('TEST BL,5', 'TEST', [BL, imm(5)], 'F6 C3 05')
+    gives('TEST BX,5 has no 83', 'TEST', [BX, imm(5)], 'F7 C3 05 00')
+    gives('TEST byte [BX],255', 'TEST', [AT_BX(BYTE), imm(255)], 'F6 07 FF')
+    gives('TEST word [BX],65535', 'TEST', [AT_BX(WORD), imm(65535)], 'F7 07 FF FF')
+    gives('TEST word CS:[4660],22136', 'TEST', [mem(WORD, 0, 6, 4660, 0x2E), imm(22136)], '2E F7 06 34 12 78 56')
+    refused('TEST BL,300', 'TEST', [BL, imm(300)], 5, SECOND, (300, 0, 255))
+    refused('TEST BL,-1', 'TEST', [BL, imm(-1)], 5, SECOND, (-1, 0, 255))
+    refused('TEST byte [BX],-1', 'TEST', [AT_BX(BYTE), imm(-1)], 5, SECOND, (-1, 0, 255))
+    refused('TEST byte [BX],256', 'TEST', [AT_BX(BYTE), imm(256)], 5, SECOND, (256, 0, 255))
+    refused('TEST AX,-1', 'TEST', [AX, imm(-1)], 5, SECOND, (-1, 0, 65535))
+    refused('TEST AX,65536', 'TEST', [AX, imm(65536)], 5, SECOND, (65536, 0, 65535))
+    refused('TEST BX,65536', 'TEST', [BX, imm(65536)], 5, SECOND, (65536, 0, 65535))
+    refused('TEST word [BX],-1', 'TEST', [AT_BX(WORD), imm(-1)], 5, SECOND, (-1, 0, 65535))
+    refused('TEST [BX],5, unstated', 'TEST', [AT_BX(ANY), imm(5)], 2, INSTRUCTION)
+    refused('TEST AX,CL', 'TEST', [AX, CL], 3, INSTRUCTION)
+    refused('TEST CL,word [BX]', 'TEST', [CL, AT_BX(WORD)], 3, INSTRUCTION)
+    refused('TEST [BX],[BX]', 'TEST', [AT_BX(WORD), AT_BX(WORD)], 1, INSTRUCTION)
+    refused('TEST 5,AX', 'TEST', [imm(5), AX], 1, INSTRUCTION)
+    refused('TEST DS,AX', 'TEST', [seg(3), AX], 1, INSTRUCTION)
+    refused('TEST AX,DS', 'TEST', [AX, seg(3)], 1, INSTRUCTION)
 
-the_lists() if sys.argv[1:] == ['lists'] else the_bench_sheet()
+    # PUSH and POP of memory: of a stated Word
+    gives('PUSH AX', 'PUSH', [AX], '50')
+    gives('PUSH word [BX]', 'PUSH', [AT_BX(WORD)], 'FF 37')
+    gives('PUSH word ES:[BP+200]', 'PUSH', [mem(WORD, 2, 6, 200, 0x26)], '26 FF B6 C8 00')
+    refused('PUSH byte [BX]', 'PUSH', [AT_BX(BYTE)], 1, FIRST)
+    refused('PUSH [BX], unstated', 'PUSH', [AT_BX(ANY)], 1, FIRST)
+    gives('POP AX', 'POP', [AX], '58')
+    gives('POP word [BX]', 'POP', [AT_BX(WORD)], '8F 07')
+    gives('POP word SS:[4660]', 'POP', [mem(WORD, 0, 6, 4660, 0x36)], '36 8F 06 34 12')
+    refused('POP byte [BX]', 'POP', [AT_BX(BYTE)], 4, FIRST)
+    refused('POP [BX], unstated', 'POP', [AT_BX(ANY)], 4, FIRST)
+
+    # RET with a word, at count 1 or 2; at 0 the operands are not looked at
+    gives('RET 5', 'RET', [imm(5)], 'C2 05 00')
+    gives('RET 0 is not RET', 'RET', [imm(0)], 'C2 00 00')
+    gives('RET 65535', 'RET', [imm(65535)], 'C2 FF FF')
+    gives('RET 4660, count 2', 'RET', [imm(4660), AX], 'C2 34 12')
+    gives('RET 5, count 0', 'RET', [imm(5)], 'C3', count=0)
+    gives('RET AX, count 0', 'RET', [AX], 'C3', count=0)
+    refused('RET -1', 'RET', [imm(-1)], 5, FIRST, (-1, 0, 65535))
+    refused('RET 65536', 'RET', [imm(65536)], 5, FIRST, (65536, 0, 65535))
+    refused('RET 65536, count 2', 'RET', [imm(65536), AX], 5, FIRST, (65536, 0, 65535))
+    refused('RET AX', 'RET', [AX], 1, INSTRUCTION)
+    refused('RET DS', 'RET', [seg(3)], 1, INSTRUCTION)
+    refused('RET word [BX]', 'RET', [AT_BX(WORD)], 1, INSTRUCTION)
+    refused('RET AX,5', 'RET', [AX, imm(5)], 1, INSTRUCTION)
+
+    # CALL through memory that holds a far target
+    gives('CALL word [BX], Far', 'CALL', [mem(WORD, 0, 7, jump=FAR)], 'FF 1F')
+    gives('CALL [BX], Far, unstated', 'CALL', [mem(ANY, 0, 7, jump=FAR)], 'FF 1F')
+    gives('CALL ES:[4660], Far', 'CALL', [mem(ANY, 0, 6, 4660, 0x26, FAR)], '26 FF 1E 34 12')
+    gives('CALL word [BX]', 'CALL', [AT_BX(WORD)], 'FF 17')
+    gives('CALL word [BX], Near', 'CALL', [mem(WORD, 0, 7, jump=NEAR)], 'FF 17')
+    refused('CALL byte [BX], Far', 'CALL', [mem(BYTE, 0, 7, jump=FAR)], 1, INSTRUCTION)
+    refused('CALL 5, Far', 'CALL', [imm(5, FAR)], 1, INSTRUCTION)
+
+    # JMP Short: its range, then the distance as of Jcc; without a kind and with Near E9
+    gives('JMP at 0 to 129, Short', 'JMP', [imm(129, SHORT)], 'EB 7F')
+    refused('JMP at 0 to 130, Short', 'JMP', [imm(130, SHORT)], 6, FIRST, (128, 0, 0))
+    gives('JMP at 256 to 130, Short', 'JMP', [imm(130, SHORT)], 'EB 80', 256)
+    refused('JMP at 256 to 129, Short', 'JMP', [imm(129, SHORT)], 6, FIRST, (-129, 0, 0), 256)
+    gives('JMP at 65534 to 65535, Short', 'JMP', [imm(65535, SHORT)], 'EB FF', 65534)
+    refused('JMP at 65534 to 0, Short', 'JMP', [imm(0, SHORT)], 6, FIRST, (-65536, 0, 0), 65534)
+    refused('JMP at 0 to 65535, Short', 'JMP', [imm(65535, SHORT)], 6, FIRST, (65533, 0, 0))
+    for offset in (0, 256, 65534):
+        refused(f'JMP at {offset} to -1, Short', 'JMP', [imm(-1, SHORT)], 5, FIRST, (-1, 0, 65535), offset)
+        refused(f'JMP at {offset} to 65536, Short', 'JMP', [imm(65536, SHORT)], 5, FIRST, (65536, 0, 65535), offset)
+    gives('JMP at 0 to 5', 'JMP', [imm(5)], 'E9 02 00')
+    gives('JMP at 0 to 5, Near', 'JMP', [imm(5, NEAR)], 'E9 02 00')
+    refused('JMP [BX], Short', 'JMP', [mem(WORD, 0, 7, jump=SHORT)], 1, FIRST)
+    refused('JMP [BX], Far', 'JMP', [mem(WORD, 0, 7, jump=FAR)], 1, FIRST)
+
+    gives('WAIT', 'WAIT', [], '9B')
+    gives('WAIT 5', 'WAIT', [imm(5)], '9B')
+
+
+# ---- the sample
+NAMES = {BYTE: 'al cl dl bl ah ch dh bh'.split(), WORD: 'ax cx dx bx sp bp si di'.split()}
+BASES = 'bx+si bx+di bp+si bp+di si di bp bx'.split()
+SIZES = {ANY: '', BYTE: 'byte ', WORD: 'word '}
+PREFIXES = {0: '', 0x26: 'es ', 0x2E: 'cs ', 0x36: 'ss ', 0x3E: 'ds '}
+
+
+def text_of(o, size):
+    """An operand as NASM writes it, in its own mode."""
+    kind, _, _, disp_size, _, mode, rm, value, disp = o
+    if kind == REG:
+        return NAMES[size][rm]
+    if kind == MEM:
+        base = '' if (mode, rm) == (0, 6) else BASES[rm]
+        return f'{SIZES[size]}[{SIZES[disp_size]}{base}{f"{disp:+}" if disp_size else ""}]'
+    return str(value)
+
+
+def assembled(text, offset):
+    with tempfile.TemporaryDirectory() as folder:
+        source, out = pathlib.Path(folder, 'a.asm'), pathlib.Path(folder, 'a.bin')
+        source.write_text(f'cpu 8086\nbits 16\norg {offset}\n{text}\n')
+        subprocess.run(['nasm', '-f', 'bin', '-o', out, source], check=True)
+        return out.read_bytes()
+
+
+def by_request(operation, offset, spans, first, second):
+    """What No. 1 answers to a record on which 000 panics: number, span and values, or NASM's bytes."""
+    instruction, at_first, at_second = spans
+    size = first[1] or second[1]
+    value, distance, highest = first[7], first[7] - (offset + 2), 256**size - 1
+    if operation == 'RET' and first[0] != IMM or operation == 'CALL' and first[1] == BYTE:
+        return dict(number=1, span=instruction)
+    if operation in ('RET', 'JMP') and not 0 <= value <= 65535:
+        return dict(number=5, span=at_first, values=(value, 0, 65535))
+    if operation == 'TEST' and second[0] == IMM and not 0 <= second[7] <= highest:
+        return dict(number=5, span=at_second, values=(second[7], 0, highest))
+    if operation == 'JMP' and not -128 <= distance <= 127:
+        return dict(number=6, span=at_first, values=(distance, 0, 0))
+    text = {
+        'TEST': lambda: f'{text_of(first, size)},{text_of(second, size)}',
+        'PUSH': lambda: text_of(first, WORD),
+        'POP': lambda: text_of(first, WORD),
+        'RET': lambda: text_of(first, ANY),
+        'CALL': lambda: f'far {text_of(first, ANY)}',
+        'JMP': lambda: f'short {text_of(first, ANY)}',
+        'WAIT': lambda: '',
+    }[operation]()
+    prefix = next((o[2] for o in (first, second) if o[0] == MEM), 0) if '[' in text else 0
+    written = assembled(f'{PREFIXES[prefix]}{operation} {text}', offset)
+    return dict(number=0, length=len(written), written=written)
+
+
+def the_sample():
+    for line in sys.stdin.read().splitlines():
+        packed, offset, number = line.split()[:3]
+        packed, offset = bytes.fromhex(packed), int(offset, 16)
+        operation = OPERATIONS[packed[0]]
+        if number != '07' or operation in ('INT1', 'ESC'):
+            print(line)
+            continue
+        *first, a, b = struct.unpack_from('<BBBBBBBiiII', packed, 10)
+        *second, c, d = struct.unpack_from('<BBBBBBBiiII', packed, 33)
+        spans = struct.unpack_from('<II', packed, 2), (a, b), (c, d)
+        row(f'{operation}, document 02, No. 1', packed, offset, **by_request(operation, offset, spans, first, second))
+
+
+{'lists': the_lists, 'sample': the_sample}.get(''.join(sys.argv[1:]), the_bench_sheet)()

@@ -1,8 +1,9 @@
 //! One record, both encoders, and the account of it.
 
 use super::answers::{self, Answer, Run};
-use super::differences::{Kind, EMITTED_BEFORE_FAILING, ENTRIES, TODO};
+use super::differences::{Kind, EMITTED_BEFORE_FAILING, ENTRIES, LEFT_OPEN, TODO};
 use super::forms::{self, Tally};
+use super::left_open;
 use super::oracle::{self, Oracle};
 use super::ours;
 use super::records::{hex, Packed, Record, NAMES, OPERATIONS};
@@ -19,6 +20,8 @@ pub struct Comparison {
     accepted: Tally,
     refused: [u64; 256],
     met: Vec<u64>,
+    /// by the order of left_open::REFUSALS
+    open_refused: [u64; left_open::REFUSALS.len()],
     /// for each operation the entries that may apply to it
     entries: Vec<Vec<usize>>,
 }
@@ -35,6 +38,7 @@ impl Comparison {
             accepted: Tally::new(),
             refused: [0; 256],
             met: vec![0; ENTRIES.len()],
+            open_refused: [0; left_open::REFUSALS.len()],
             entries: (0..OPERATIONS).map(of).collect(),
         }
     }
@@ -59,7 +63,7 @@ impl Comparison {
     /// The oracle's answer, or what the entry that applies puts in its place.
     fn expected(&mut self, record: &Record, offset: u16, theirs: &Oracle) -> Answer {
         let mut stated = None;
-        let mut explained_todo = false;
+        let mut explained_todo = 0;
         let mut explained_emitted = false;
         for i in 0..self.entries[record.operation as usize].len() {
             let at = self.entries[record.operation as usize][i];
@@ -68,10 +72,11 @@ impl Comparison {
                 continue;
             }
             self.met[at] += 1;
-            explained_todo |= entry.id == TODO;
+            explained_todo += (entry.id == TODO || entry.kind == Kind::Filled) as u32;
             explained_emitted |= entry.id == EMITTED_BEFORE_FAILING;
-            let ours = (entry.ours)(record, theirs);
-            if !(entry.theirs)(record, theirs) || (ours != theirs.answer) != (entry.kind == Kind::Answer) {
+            let ours = (entry.ours)(record, offset, theirs);
+            let otherwise = matches!(entry.kind, Kind::Answer | Kind::Filled);
+            if !(entry.theirs)(record, theirs) || (ours != theirs.answer) != otherwise {
                 let text = format!("{}: 000 does {} there, ours is stated as {}", entry.id, told(&theirs.answer), told(&ours));
                 self.fail(record, offset, &text);
             }
@@ -79,12 +84,24 @@ impl Comparison {
                 self.fail(record, offset, &format!("{}: another entry states another answer", entry.id));
             }
             stated = Some(ours);
+            if entry.id == LEFT_OPEN {
+                self.count_open(record, offset, &ours);
+            }
         }
         let emitted = theirs.emitted > 0 && matches!(theirs.answer, Answer::Refused(_));
-        if theirs.panicked != explained_todo || emitted != explained_emitted {
-            self.fail(record, offset, "todo or emitted-before-failing is not where it is listed");
+        // one entry, and no more, has each record on which 000 panics
+        if theirs.panicked as u32 != explained_todo || emitted != explained_emitted {
+            self.fail(record, offset, "a panic at todo! or emitted-before-failing is not where it is listed");
         }
         stated.unwrap_or(theirs.answer)
+    }
+
+    fn count_open(&mut self, record: &Record, offset: u16, ours: &Answer) {
+        let Answer::Refused(refusal) = ours else { return };
+        match left_open::REFUSALS.iter().position(|listed| *listed == (record.operation, refusal.number)) {
+            Some(at) => self.open_refused[at] += 1,
+            None => self.fail(record, offset, "left-open: a refusal that is not listed"),
+        }
     }
 
     fn ask_ours(&mut self, record: &Record, offset: u16, expected: Answer, theirs: Option<&Oracle>) {
@@ -179,10 +196,22 @@ impl Comparison {
             met = false;
         }
 
+        let open: Vec<(String, u64)> = left_open::REFUSALS
+            .iter()
+            .zip(self.open_refused)
+            .map(|((operation, number), count)| (format!("{} {number}", NAMES[*operation as usize]), count))
+            .collect();
+        let counts: Vec<String> = open.iter().map(|(name, count)| format!("{name}: {count}")).collect();
+        println!("refused of left-open: {}", counts.join(", "));
+        for (name, _) in open.iter().filter(|(_, count)| *count == 0) {
+            println!("NOT MET: refusal {name} of left-open");
+            met = false;
+        }
+
         println!("docs/DIFFERENCES.md by entry:");
         for (entry, count) in ENTRIES.iter().zip(&self.met) {
             let kind = match entry.kind {
-                Kind::Answer | Kind::Manner => "difference",
+                Kind::Answer | Kind::Filled | Kind::Manner => "difference",
                 Kind::Agrees => "agrees",
                 Kind::Kept => "kept",
             };

@@ -3,6 +3,7 @@
 
 use super::answers::{self, Answer};
 use super::groups::{ARITHMETIC, CONDITIONAL, LOOPS};
+use super::left_open;
 use super::oracle::Oracle;
 use super::records::{op, Operand, Record, BYTE, FAR, IMM, MEM, NONE, REG, SEG, SHORT, UNSTATED, WORD};
 
@@ -10,6 +11,8 @@ use super::records::{op, Operand, Record, BYTE, FAR, IMM, MEM, NONE, REG, SEG, S
 pub enum Kind {
     /// ours answers otherwise
     Answer,
+    /// ours answers by document 02, No. 1, where 000 panics at `todo!`
+    Filled,
     /// ours refuses as 000 does, but 000 panics or has emitted bytes by then
     Manner,
     /// document 01 names it, and 000 answers the same
@@ -26,10 +29,11 @@ pub struct Entry {
     /// did 000 do what the entry says of it?
     pub theirs: fn(&Record, &Oracle) -> bool,
     /// what ours must answer
-    pub ours: fn(&Record, &Oracle) -> Answer,
+    pub ours: fn(&Record, u16, &Oracle) -> Answer,
 }
 
 pub const EMITTED_BEFORE_FAILING: &str = "emitted-before-failing";
+pub const LEFT_OPEN: &str = "left-open";
 pub const TODO: &str = "todo";
 
 pub static ENTRIES: &[Entry] = &[
@@ -39,7 +43,7 @@ pub static ENTRIES: &[Entry] = &[
         operations: &[op::AAM, op::AAD],
         applies: |_, _| true,
         theirs: |r, o| o.answer == answers::bytes(&[adjust(r), 0xA0]),
-        ours: |r, _| answers::bytes(&[adjust(r), 0x0A]),
+        ours: |r, _, _| answers::bytes(&[adjust(r), 0x0A]),
     },
     Entry {
         id: "xchg-byte-al",
@@ -50,7 +54,7 @@ pub static ENTRIES: &[Entry] = &[
             r.common_size() == Some(BYTE) && first.kind == REG && second.kind == REG && second.rm == 0
         },
         theirs: |r, o| o.answer == answers::bytes(&[0x90 + r.operands[0].rm]),
-        ours: |r, _| answers::bytes(&[0x86, 0xC0 + 8 * r.operands[0].rm]),
+        ours: |r, _, _| answers::bytes(&[0x86, 0xC0 + 8 * r.operands[0].rm]),
     },
     Entry {
         id: "test-immediate",
@@ -63,7 +67,7 @@ pub static ENTRIES: &[Entry] = &[
             taken && test_al(first) != test_al(second)
         },
         theirs: |r, o| o.answer == test_al(&r.operands[0]),
-        ours: |r, _| test_al(&r.operands[1]),
+        ours: |r, _, _| test_al(&r.operands[1]),
     },
     Entry {
         id: "pop-cs",
@@ -71,7 +75,7 @@ pub static ENTRIES: &[Entry] = &[
         operations: &[op::POP],
         applies: |r, _| r.operands[0].kind == SEG && r.operands[0].rm == 1,
         theirs: |_, o| o.answer == answers::bytes(&[0x0F]),
-        ours: |r, _| answers::refused(1, r.span),
+        ours: |r, _, _| answers::refused(1, r.span),
     },
     Entry {
         id: "call-register-kind",
@@ -79,7 +83,7 @@ pub static ENTRIES: &[Entry] = &[
         operations: &[op::CALL],
         applies: |r, _| r.operands[0].kind == REG && matches!(r.operands[0].jump, FAR | SHORT),
         theirs: |r, o| o.answer == with_modrm(0xFF, 2, &r.operands[0], &[]),
-        ours: |r, _| answers::refused(1, r.span),
+        ours: |r, _, _| answers::refused(1, r.span),
     },
     Entry {
         id: "call-memory-short",
@@ -87,7 +91,7 @@ pub static ENTRIES: &[Entry] = &[
         operations: &[op::CALL],
         applies: |r, _| r.operands[0].kind == MEM && r.operands[0].jump == SHORT,
         theirs: |r, o| o.answer == with_modrm(0xFF, 2, &r.operands[0], &[]),
-        ours: |r, _| answers::refused(1, r.span),
+        ours: |r, _, _| answers::refused(1, r.span),
     },
     Entry {
         id: "byte-target",
@@ -106,7 +110,7 @@ pub static ENTRIES: &[Entry] = &[
             let n = if r.operation == op::CALL { 2 } else { 4 };
             o.answer == with_modrm(0xFF, n, &r.operands[0], &[])
         },
-        ours: |r, _| answers::refused(1, r.span),
+        ours: |r, _, _| answers::refused(1, r.span),
     },
     Entry {
         id: "mov-memory-range",
@@ -126,7 +130,7 @@ pub static ENTRIES: &[Entry] = &[
                     _ => with_modrm(0xC7, 0, first, &imm[..2]),
                 }
         },
-        ours: |r, _| {
+        ours: |r, _, _| {
             let (low, high) = moved_limits(r);
             answers::out_of_range(r.operands[1].span, r.operands[1].imm, low, high)
         },
@@ -144,7 +148,7 @@ pub static ENTRIES: &[Entry] = &[
             let base = if r.operation == op::IN { 0xE4 } else { 0xE6 };
             o.answer == answers::bytes(&[base + (accumulator.size == WORD) as u8, port.imm as u8])
         },
-        ours: |r, _| {
+        ours: |r, _, _| {
             let (_, port) = accumulator_and_port(r);
             answers::out_of_range(port.span, port.imm, 0, 255)
         },
@@ -160,17 +164,31 @@ pub static ENTRIES: &[Entry] = &[
         applies: fails_after_emitting,
         theirs: |_, o| o.emitted > 0 && matches!(o.answer, Answer::Refused(_)),
         // the same refusal; that ours writes no byte is asked of every refusal
-        ours: |_, o| o.answer,
+        ours: |_, _, o| o.answer,
     },
     Entry {
         id: TODO,
         kind: Kind::Manner,
-        operations: &[
-            op::INT1, op::WAIT, op::ESC, op::RET, op::TEST, op::PUSH, op::POP, op::CALL, op::JMP,
-        ],
-        applies: |r, _| reaches_todo(r),
+        operations: &[op::INT1, op::ESC],
+        applies: |_, _| true,
         theirs: |_, o| o.panicked,
-        ours: |r, _| answers::refused(7, r.span),
+        ours: |r, _, _| answers::refused(7, r.span),
+    },
+    Entry {
+        id: LEFT_OPEN,
+        kind: Kind::Filled,
+        operations: &[op::TEST, op::PUSH, op::POP, op::RET, op::CALL, op::JMP, op::WAIT],
+        applies: |r, offset| left_open::answer(r, offset).is_some(),
+        theirs: |_, o| o.panicked,
+        ours: |r, offset, o| left_open::answer(r, offset).unwrap_or(o.answer),
+    },
+    Entry {
+        id: "call-far-byte-memory",
+        kind: Kind::Filled,
+        operations: &[op::CALL],
+        applies: |r, _| r.operands[0].kind == MEM && r.operands[0].jump == FAR && r.operands[0].size == BYTE,
+        theirs: |_, o| o.panicked,
+        ours: |r, _, _| answers::refused(1, r.span),
     },
     Entry {
         id: "push-byte-register",
@@ -178,7 +196,7 @@ pub static ENTRIES: &[Entry] = &[
         operations: &[op::PUSH],
         applies: |r, _| r.operands[0].kind == REG && r.operands[0].size == BYTE,
         theirs: |r, o| o.answer == answers::refused(1, r.operands[0].span),
-        ours: |r, _| answers::refused(1, r.operands[0].span),
+        ours: |r, _, _| answers::refused(1, r.operands[0].span),
     },
     Entry {
         id: "push-unstated-register",
@@ -186,7 +204,7 @@ pub static ENTRIES: &[Entry] = &[
         operations: &[op::PUSH],
         applies: |r, _| r.operands[0].kind == REG && r.operands[0].size == UNSTATED,
         theirs: |r, o| o.answer == answers::refused(1, r.operands[0].span),
-        ours: |r, _| answers::refused(1, r.operands[0].span),
+        ours: |r, _, _| answers::refused(1, r.operands[0].span),
     },
     Entry {
         id: "in-out-unstated-accumulator",
@@ -198,7 +216,7 @@ pub static ENTRIES: &[Entry] = &[
             is_accumulator(accumulator) && accumulator.size == UNSTATED && has_form
         },
         theirs: |r, o| o.answer == answers::refused(1, r.span),
-        ours: |r, _| answers::refused(1, r.span),
+        ours: |r, _, _| answers::refused(1, r.span),
     },
     Entry {
         id: "in-out-byte-dx",
@@ -206,7 +224,7 @@ pub static ENTRIES: &[Entry] = &[
         operations: &[op::IN, op::OUT],
         applies: |r, _| dx_of_size(r, BYTE),
         theirs: |r, o| o.answer == answers::refused(1, r.span),
-        ours: |r, _| answers::refused(1, r.span),
+        ours: |r, _, _| answers::refused(1, r.span),
     },
     Entry {
         id: "in-out-unstated-dx",
@@ -214,7 +232,7 @@ pub static ENTRIES: &[Entry] = &[
         operations: &[op::IN, op::OUT],
         applies: |r, _| dx_of_size(r, UNSTATED),
         theirs: |r, o| o.answer == answers::refused(1, r.span),
-        ours: |r, _| answers::refused(1, r.span),
+        ours: |r, _, _| answers::refused(1, r.span),
     },
     Entry {
         id: "pop-immediate",
@@ -222,15 +240,7 @@ pub static ENTRIES: &[Entry] = &[
         operations: &[op::POP],
         applies: |r, _| r.operands[0].kind == IMM,
         theirs: |r, o| o.answer == answers::refused(4, r.operands[0].span),
-        ours: |r, _| answers::refused(4, r.operands[0].span),
-    },
-    Entry {
-        id: "call-far-byte-memory",
-        kind: Kind::Agrees,
-        operations: &[op::CALL],
-        applies: |r, _| r.operands[0].kind == MEM && r.operands[0].jump == FAR && r.operands[0].size == BYTE,
-        theirs: |r, o| o.answer == answers::refused(7, r.span),
-        ours: |r, _| answers::refused(7, r.span),
+        ours: |r, _, _| answers::refused(4, r.operands[0].span),
     },
     Entry {
         id: "sign-extended-negative",
@@ -242,7 +252,7 @@ pub static ENTRIES: &[Entry] = &[
             word_immediate && (-128..0).contains(&second.imm)
         },
         theirs: |r, o| o.answer == answers::out_of_range(r.operands[1].span, r.operands[1].imm, 0, 255),
-        ours: |r, _| answers::out_of_range(r.operands[1].span, r.operands[1].imm, 0, 255),
+        ours: |r, _, _| answers::out_of_range(r.operands[1].span, r.operands[1].imm, 0, 255),
     },
 ];
 
@@ -316,26 +326,8 @@ fn fails_after_emitting(r: &Record, offset: u16) -> bool {
     }
 }
 
-fn reaches_todo(r: &Record) -> bool {
-    let [first, second] = &r.operands;
-    match r.operation {
-        op::INT1 | op::WAIT | op::ESC => true,
-        op::RET => r.count != 0,
-        op::TEST => match (r.common_size(), first.kind, second.kind) {
-            (None, _, _) => false,
-            (_, REG | MEM, REG) | (_, REG, MEM) | (_, MEM, IMM) => true,
-            (Some(size), REG, IMM) => size == WORD || first.rm != 0,
-            _ => false,
-        },
-        op::PUSH | op::POP => first.kind == MEM && first.size == WORD,
-        op::CALL => first.kind == MEM && first.jump == FAR,
-        op::JMP => first.kind == IMM && first.jump == SHORT && is_word(first.imm),
-        _ => false,
-    }
-}
-
 /// Prefix, opcode, ModRM with /n, displacement, tail.
-fn with_modrm(opcode: u8, n: u8, rm: &Operand, tail: &[u8]) -> Answer {
+pub fn with_modrm(opcode: u8, n: u8, rm: &Operand, tail: &[u8]) -> Answer {
     let mut bytes = Vec::with_capacity(8);
     if rm.prefix != 0 {
         bytes.push(rm.prefix);

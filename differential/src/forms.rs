@@ -4,7 +4,7 @@ use super::answers::Run;
 use super::records::PREFIXES;
 
 /// Opcodes whose reg field is part of the form.
-const WITH_N: [u8; 13] = [0x80, 0x81, 0x83, 0xC6, 0xC7, 0xD0, 0xD1, 0xD2, 0xD3, 0xF6, 0xF7, 0xFE, 0xFF];
+const WITH_N: [u8; 14] = [0x80, 0x81, 0x83, 0x8F, 0xC6, 0xC7, 0xD0, 0xD1, 0xD2, 0xD3, 0xF6, 0xF7, 0xFE, 0xFF];
 
 /// The first byte after the prefix, with /n where that is part of the form.
 pub type Form = (u8, Option<u8>);
@@ -15,9 +15,15 @@ pub fn form_of(run: &Run) -> Form {
     (opcode, WITH_N.contains(&opcode).then(|| run.bytes[at + 1] / 8 % 8))
 }
 
-/// Document 01, 'Code list', in its order.
+/// The forms of document 02, No. 1, in its order. 000 never writes them.
+pub const LEFT_OPEN: [Form; 11] = [
+    (0x84, None), (0x85, None), (0xA9, None), (0xF6, Some(0)), (0xF7, Some(0)), (0xFF, Some(6)), (0x8F, Some(0)), (0xC2, None),
+    (0xFF, Some(3)), (0xEB, None), (0x9B, None),
+];
+
+/// Document 01, 'Code list', in its order, and the ones above.
 pub fn all() -> Vec<Form> {
-    let mut forms = Vec::new();
+    let mut forms = LEFT_OPEN.to_vec();
     let mut plain = |opcodes: &[u8]| forms.extend(opcodes.iter().map(|opcode| (*opcode, None)));
     for base in (0x00..=0x38).step_by(8) {
         plain(&[base, base + 1, base + 2, base + 3, base + 4, base + 5]);

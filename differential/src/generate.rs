@@ -1,7 +1,7 @@
 //! The systematic records: every operation with every shape, and every branch at every offset. Spans are given later.
 
 use super::groups::{looks_at_both, looks_at_first, CONDITIONAL, LOOPS};
-use super::records::{mix, op, Operand, Record, FAR, NEAR, NONE, OPERATIONS, SHORT, UNSTATED};
+use super::records::{mix, op, Operand, Record, FAR, MEM, NEAR, NONE, OPERATIONS, SHORT, UNSTATED};
 use super::shapes;
 
 #[derive(Clone, Copy, PartialEq, Eq)]
@@ -14,6 +14,9 @@ pub type Visit<'a> = dyn FnMut(Record, u16) + 'a;
 
 /// Offsets for records whose answer does not hang on them, and some where a sum passes 65,535.
 const OFFSETS: [u16; 8] = [0, 1, 0x100, 0x7FFF, 0xFFFC, 0xFFFD, 0xFFFE, 0xFFFF];
+
+/// Around the limits of an unsigned immediate of either size, and values that a truncation would bring inside.
+const LIMITS: [i32; 10] = [i32::MIN, -65536, -1, 0, 1, 255, 256, 65535, 65536, i32::MAX];
 
 pub fn record(operation: u8, count: u8, first: Operand, second: Operand) -> Record {
     Record { operation, count, span: (0, 0), operands: [first, second] }
@@ -112,4 +115,41 @@ fn near(offset: u16, depth: Depth, target: &mut dyn FnMut(u8, i32)) {
     }
     let others = [i32::MIN, i32::MAX, offset as i32, (next + 32768) % 65536, (next + 32767) % 65536, -32768, 131072, 256];
     target([NONE, FAR, NEAR, SHORT][turn / 8 % 4], others[turn % 8]);
+}
+
+/// The forms that 000 leaves open, on and around their limits: RET with every shape at every count, TEST with every register and memory
+/// beside every register and the limits of an immediate, JMP of kind Short at all 65,536 offsets. PUSH, POP and CALL meet every shape above.
+/// Apart from the others, as the sample is drawn from those: 000 has no answers here.
+pub fn left_open(depth: Depth, visit: &mut Visit) {
+    let all = shapes::all();
+    let unread = shapes::register(UNSTATED, NONE, 0, 0);
+    for shape in &all {
+        for count in 0..3 {
+            visit(record(op::RET, count, *shape, unread), OFFSETS[count as usize]);
+        }
+    }
+
+    let sized = |of: &dyn Fn(u8) -> Vec<Operand>| shapes::SIZES.into_iter().flat_map(of).collect::<Vec<_>>();
+    let registers = sized(&|size| (0..8).map(|rm| shapes::register(size, NONE, rm, 5)).collect());
+    let immediates = sized(&|size| LIMITS.iter().map(|imm| shapes::immediate(size, NONE, *imm, 0)).collect());
+    let memory: Vec<Operand> = all.iter().filter(|shape| shape.kind == MEM && shape.jump == NONE).copied().collect();
+    let mut test = |firsts: &[Operand], seconds: &[Operand]| {
+        for first in firsts {
+            for second in seconds {
+                visit(record(op::TEST, 2, *first, *second), 0);
+            }
+        }
+    };
+    test(&registers, &registers);
+    test(&registers, &memory);
+    test(&memory, &registers);
+    test(&registers, &immediates);
+    test(&memory, &immediates);
+
+    // The distances are those of Jcc; the kind is always Short.
+    for offset in 0..=65535 {
+        conditional(op::JMP, offset, depth, &mut |_, target| {
+            visit(record(op::JMP, 1, shapes::immediate(UNSTATED, SHORT, target, 4660), unread), offset)
+        });
+    }
 }

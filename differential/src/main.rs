@@ -8,6 +8,7 @@ mod forms;
 mod generate;
 mod groups;
 mod ill_formed;
+mod left_open;
 mod oracle;
 mod ours;
 mod random;
@@ -46,6 +47,7 @@ fn run(depth: Depth, random: u64) -> bool {
     let mut visit = |record, offset| comparison.visit(record, offset);
     generate::systematic(depth, &mut visit);
     generate::branches(depth, &mut visit);
+    generate::left_open(depth, &mut visit);
     random::records(random, SEED, &mut visit);
     ill_formed::records(&mut visit);
     comparison.report()

@@ -2,7 +2,7 @@
 
 use super::records::{Operand, BYTE, FAR, IMM, MEM, NEAR, NONE, PREFIXES, REG, SEG, SHORT, UNSTATED, WORD};
 
-const SIZES: [u8; 3] = [UNSTATED, BYTE, WORD];
+pub const SIZES: [u8; 3] = [UNSTATED, BYTE, WORD];
 const JUMPS: [u8; 4] = [NONE, FAR, NEAR, SHORT];
 
 /// On and around every limit, and values that a truncation would turn into a small one (257, 65537 and 65792 into 1, 1 and 0).

@@ -1,5 +1,5 @@
 //! A STAND-IN for our encoder, only for `build --standin`: it tests the driver while there is no library, and proves nothing.
-//! Written from document 01, in the order of its questions, and not from 000.
+//! Written from document 01 with document 02, No. 1, in the order of the questions, and not from 000.
 
 use super::answers::{self, Answer, Span};
 use super::groups::{ARITHMETIC, CONDITIONAL, LOOPS};
@@ -65,13 +65,14 @@ fn unpack(packed: &[u8]) -> Record {
 }
 
 /// Single bytes.
-const PLAIN: [(u8, u8); 37] = [
+const PLAIN: [(u8, u8); 38] = [
     (op::DAA, 0x27), (op::DAS, 0x2F), (op::AAA, 0x37), (op::AAS, 0x3F), (op::NOP, 0x90), (op::CBW, 0x98), (op::CWD, 0x99),
     (op::PUSHF, 0x9C), (op::POPF, 0x9D), (op::SAHF, 0x9E), (op::LAHF, 0x9F), (op::MOVSB, 0xA4), (op::MOVSW, 0xA5),
     (op::CMPSB, 0xA6), (op::CMPSW, 0xA7), (op::STOSB, 0xAA), (op::STOSW, 0xAB), (op::LODSB, 0xAC), (op::LODSW, 0xAD),
     (op::SCASB, 0xAE), (op::SCASW, 0xAF), (op::INT3, 0xCC), (op::INTO, 0xCE), (op::IRET, 0xCF), (op::SALC, 0xD6),
     (op::LOCK, 0xF0), (op::REPNE, 0xF2), (op::REP, 0xF3), (op::HLT, 0xF4), (op::CMC, 0xF5), (op::CLC, 0xF8), (op::STC, 0xF9),
     (op::CLI, 0xFA), (op::STI, 0xFB), (op::CLD, 0xFC), (op::STD, 0xFD), (op::RET, 0xC3),
+    (op::WAIT, 0x9B),
 ];
 /// /0 to /7; /6 has no operation.
 const SHIFTS: [u8; 8] = [op::ROL, op::ROR, op::RCL, op::RCR, op::SHL, op::SHR, 255, op::SAR];
@@ -91,7 +92,7 @@ fn answer(r: &Record, offset: u16) -> Answer {
     let none = answers::refused(1, r.span);
     let none_operand = answers::refused(1, a.span);
     // 2
-    if matches!(o, op::INT1 | op::WAIT | op::ESC) {
+    if matches!(o, op::INT1 | op::ESC) {
         return answers::refused(7, r.span);
     }
     // 3
@@ -142,8 +143,15 @@ fn answer(r: &Record, offset: u16) -> Answer {
             _ => none,
         },
         op::TEST => match (a.kind, b.kind) {
-            (REG, IMM) if w == 0 && a.rm == 0 => ranged(&[0xA8], 1, b.imm, 0, 255, b.span),
-            (REG | MEM, REG | IMM) | (REG, MEM) => answers::refused(7, r.span),
+            (MEM, REG) | (REG, REG) => modrm(0x84 + w, b.rm, a, &[]),
+            (REG, MEM) => modrm(0x84 + w, a.rm, b, &[]),
+            (REG | MEM, IMM) => {
+                let (width, high) = [(1, 255), (2, 65535)][w as usize];
+                match ranged(&[0xA8 + w], width, b.imm, 0, high, b.span) {
+                    Answer::Bytes(_) if a.kind == MEM || a.rm != 0 => modrm(0xF6 + w, 0, a, &b.imm.to_le_bytes()[..width]),
+                    accumulator_or_refused => accumulator_or_refused,
+                }
+            }
             _ => none,
         },
         op::INC | op::DEC => {
@@ -157,14 +165,14 @@ fn answer(r: &Record, offset: u16) -> Answer {
         op::PUSH => match a.kind {
             REG if a.size == WORD => answers::bytes(&[0x50 + a.rm]),
             SEG => answers::bytes(&[0x06 + 8 * a.rm]),
-            MEM if a.size == WORD => answers::refused(7, r.span),
+            MEM if a.size == WORD => modrm(0xFF, 6, a, &[]),
             _ => none_operand,
         },
         op::POP => match a.kind {
             REG => answers::bytes(&[0x58 + a.rm]),
             SEG if a.rm != 1 => answers::bytes(&[0x07 + 8 * a.rm]),
             SEG => none,
-            MEM => answers::refused(7, r.span),
+            MEM => modrm(0x8F, 0, a, &[]),
             _ => answers::refused(4, a.span),
         },
         op::LEA | op::LES | op::LDS if a.kind == REG && a.size == WORD && b.kind == MEM => {
@@ -173,7 +181,7 @@ fn answer(r: &Record, offset: u16) -> Answer {
         }
         op::CALL => match (a.kind, a.jump) {
             (IMM, NONE | NEAR) => near(0xE8, a, offset),
-            (MEM, FAR) => answers::refused(7, r.span),
+            (MEM, FAR) if a.size != BYTE => modrm(0xFF, 3, a, &[]),
             (REG | MEM, NONE | NEAR) if a.size != BYTE => modrm(0xFF, 2, a, &[]),
             _ => none,
         },
@@ -184,7 +192,7 @@ fn answer(r: &Record, offset: u16) -> Answer {
                 let target = (a.imm as u16).to_le_bytes();
                 ranged(&[0xEA, target[0], target[1]], 2, a.displacement, 0, 65535, a.span)
             }
-            (IMM, _) => answers::refused(7, r.span),
+            (IMM, _) => short(0xEB, a, offset, none),
             (REG | MEM, FAR | SHORT) => none_operand,
             (REG | MEM, _) if a.size != BYTE => modrm(0xFF, 4, a, &[]),
             _ => none,
@@ -198,7 +206,8 @@ fn answer(r: &Record, offset: u16) -> Answer {
         op::OUT => port(0xE6, b, a, none),
         op::AAM => answers::bytes(&[0xD4, 0x0A]),
         op::AAD => answers::bytes(&[0xD5, 0x0A]),
-        op::RET if r.count != 0 => answers::refused(7, r.span),
+        op::RET if r.count != 0 && a.kind == IMM => ranged(&[0xC2], 2, a.imm, 0, 65535, a.span),
+        op::RET if r.count != 0 => none,
         _ => PLAIN.iter().find(|(p, _)| *p == o).map_or(none, |(_, byte)| answers::bytes(&[*byte])),
     }
 }

@@ -5,7 +5,8 @@ use crate::forms::{self, form_of};
 use crate::generate::{self, Depth, Visit};
 use crate::ours;
 use crate::random;
-use crate::records::{mix, Record};
+use crate::records::{mix, op, Record, BYTE, NONE, SHORT, UNSTATED, WORD};
+use crate::shapes;
 use std::collections::BTreeMap;
 
 const SEED: u64 = 0x0086_3013_CB28_B600;
@@ -36,6 +37,7 @@ pub fn sample(of_each: usize, random: u64) -> Vec<Accepted> {
     };
     generate::systematic(Depth::Short, &mut visit);
     branches(&mut visit);
+    no_1(&mut visit);
     random::records(random, SEED, &mut visit);
     kept.into_values().flat_map(|(_, records)| records).collect()
 }
@@ -47,4 +49,32 @@ fn branches(visit: &mut Visit) {
             visit(record, offset)
         }
     });
+}
+
+/// What the differential run has few of: JMP around the limits of EB's distance and at every distance between, RET with many counts, TEST of the
+/// accumulator with many immediates. Without a kind the encoder writes E9, and for plain text NASM has to change from EB to E9 where our lists do.
+fn no_1(visit: &mut Visit) {
+    let unread = shapes::register(UNSTATED, NONE, 0, 0);
+    let immediate = |kind: u8, value: i32| shapes::immediate(UNSTATED, kind, value, 0);
+    for (turn, offset) in (0..=65535u16).step_by(13).enumerate() {
+        let mut jump = |kind: u8, distance: i32| {
+            visit(generate::record(op::JMP, 1, immediate(kind, offset as i32 + 2 + distance), unread), offset)
+        };
+        for distance in [-129, -128, 127, 128] {
+            jump(SHORT, distance);
+            if turn % 4 == 0 {
+                jump(NONE, distance);
+            }
+        }
+        for part in 0..4 {
+            jump(SHORT, ((turn + 64 * part) % 256) as i32 - 128);
+        }
+    }
+    for value in (-3..=65539).step_by(3) {
+        visit(generate::record(op::RET, 1, immediate(NONE, value), unread), 0);
+        visit(generate::record(op::TEST, 2, shapes::register(WORD, NONE, 0, 0), immediate(NONE, value)), 0);
+    }
+    for value in -3..=259 {
+        visit(generate::record(op::TEST, 2, shapes::register(BYTE, NONE, 0, 0), immediate(NONE, value)), 0);
+    }
 }

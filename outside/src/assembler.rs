@@ -4,7 +4,7 @@ use crate::accepted::{self, Accepted};
 use crate::assembly::{text, Manner};
 use crate::forms::{self, Tally};
 use crate::nasm;
-use crate::records::{hex, op, IMM, NONE};
+use crate::records::hex;
 use crate::{Depth, Failures};
 
 pub fn run(depth: Depth) -> bool {
@@ -15,7 +15,8 @@ pub fn run(depth: Depth) -> bool {
     for accepted in &sample {
         met.add(&accepted.run);
     }
-    for form in forms::all().iter().filter(|form| met.count(form) == 0) {
+    let all = forms::all();
+    for form in all.iter().filter(|form| met.count(form) == 0) {
         failures.add(&format!("no record of the form {}", forms::name(form)));
     }
 
@@ -26,41 +27,32 @@ pub fn run(depth: Depth) -> bool {
             failures.add(&format!("{line}: ours {}, NASM {}, {}", hex(ours), told(&theirs), shown(accepted)));
         }
     }
-    println!("assembler: forced text, {} records of {} forms, {} unexplained", sample.len(), forms::all().len(), failures.count());
+    println!("assembler: forced text, {} records of {} forms, {} unexplained", sample.len(), all.len(), failures.count());
     plain(&sample, &mut failures);
     failures.count() == 0
 }
 
 fn plain(sample: &[Accepted], failures: &mut Failures) {
     let lines: Vec<String> = sample.iter().map(|a| text(&a.record, a.offset, Manner::Plain)).collect();
-    let (mut other, mut short) = (0, 0);
+    let mut other = 0;
     let before = failures.count();
     for ((accepted, line), theirs) in sample.iter().zip(&lines).zip(nasm::assemble(&lines)) {
-        let record = &accepted.record;
-        let list = crate::library::list(&record.pack(), accepted.offset);
+        let list = crate::library::list(&accepted.record.pack(), accepted.offset);
         let stands = match (&theirs, &list) {
             (Ok(theirs), Ok(list)) => list.contains(theirs),
             _ => false,
         };
         if stands {
             other += (theirs.as_deref() != Ok(&accepted.run.bytes[..accepted.run.len])) as u64;
-        } else if record.operation == op::JMP
-            && record.operands[0].kind == IMM
-            && record.operands[0].jump == NONE
-            && theirs.as_ref().is_ok_and(|bytes| bytes[0] == 0xEB)
-        {
-            // until No. 1 of document 02
-            short += 1;
         } else {
             let list: Vec<String> = list.unwrap_or_default().iter().map(|entry| hex(entry)).collect();
             failures.add(&format!("{line}: NASM {} is not in [{}], {}", told(&theirs), list.join(" "), shown(accepted)));
         }
     }
     println!(
-        "assembler: plain text, {} records, {} with another string of the list, {} JMP without a kind written EB, {} unexplained",
+        "assembler: plain text, {} records, {} with another string of the list, {} unexplained",
         lines.len(),
         other,
-        short,
         failures.count() - before
     );
 }

@@ -2,7 +2,7 @@
 
 use crate::groups::{ARITHMETIC, CONDITIONAL, LOOPS};
 use crate::meaning::is_shift;
-use crate::records::{op, Operand, Record, BYTE, FAR, IMM, MEM, NAMES, NEAR, NONE, REG, SEG, UNSTATED, WORD};
+use crate::records::{op, Operand, Record, BYTE, FAR, IMM, MEM, NAMES, NEAR, NONE, REG, SEG, SHORT, UNSTATED, WORD};
 
 #[derive(Clone, Copy, PartialEq, Eq)]
 pub enum Manner {
@@ -96,6 +96,8 @@ pub fn text(record: &Record, offset: u16, manner: Manner) -> String {
         }
         op::LEA | op::LES | op::LDS => format!("{name} {}, {}", operand(a, WORD, manner), memory(b, manner)),
         op::CALL | op::JMP => match (a.kind, a.jump) {
+            (MEM, FAR) => format!("{name} far {}", memory(a, manner)),
+            (IMM, SHORT) => format!("{name} short {}", distance(a)),
             (IMM, FAR) => format!("{name} {}:{}", a.displacement, a.imm),
             // without a kind NASM is free to take EB
             (IMM, NONE) if manner == Plain => format!("{name} {}", distance(a)),
@@ -103,6 +105,8 @@ pub fn text(record: &Record, offset: u16, manner: Manner) -> String {
             _ => format!("{name} {}", operand(a, WORD, manner)),
         },
         op::INT => format!("{name} {}", a.imm),
+        // a count of 2 says no more than 1: no operation looks at an operand that it does not use
+        op::RET if record.count != 0 => format!("{name} {}", a.imm),
         op::XLATB => format!("{} {name}", segment_prefix(a.prefix).trim_end_matches(':')),
         op::IN => format!("{name} {}, {}", operand(a, a.size, manner), operand(b, WORD, manner)),
         op::OUT => format!("{name} {}, {}", operand(a, WORD, manner), operand(b, b.size, manner)),

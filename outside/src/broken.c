@@ -25,6 +25,9 @@ uint8_t fsq_encode(const uint8_t *rec, size_t n, uint16_t offset, uint8_t *out, 
     // a distance from the start
     if (fault("distance") && number == 0 && out[0] == 0xE8)
         out[1] += 3;
+    // EB's distance from offset + 3, as if it were as long as E9
+    if (fault("short-distance") && number == 0 && out[0] == 0xEB)
+        out[1] -= 1;
     return number;
 }
 
@@ -44,6 +47,12 @@ uint8_t fsq_read(const uint8_t *bytes, size_t n, uint16_t offset, uint8_t *out, 
     // SALC, which no manual has
     if (fault("no-salc") && n > 0 && bytes[0] == 0xD6)
         return 10;
+    // F6 as before No. 1: TEST's /0 unused
+    if (fault("no-f6-0") && n > 1 && bytes[0] == 0xF6 && (bytes[1] & 0x38) == 0)
+        return 10;
+    // the far CALL with the near one's width
+    if (fault("far-as-near") && number == 0 && n > 1 && bytes[0] == 0xFF && (bytes[1] & 0x38) == 0x18)
+        out[2] = 2;
     // a byte not asked for
     if (fault("asks-more") && n == 1 && bytes[0] == 0x40)
         return 11;
@@ -54,6 +63,9 @@ uint8_t fsq_list(const uint8_t *rec, size_t n, uint16_t offset, uint8_t *out, si
     uint8_t number = right_fsq_list(rec, n, offset, out, m, report, k);
     // the second direction of two registers
     if (fault("one-missing") && number == 0 && report[0] > 1 && out[0] == 2 && out[1] == 0x01)
+        report[0]--;
+    // TEST of memory and a register without its longest string, which the other order has
+    if (fault("one-order") && number == 0 && rec[0] == 43 && rec[10] == 3 && rec[33] == 1 && report[0] > 1)
         report[0]--;
     // the shortest string
     if (fault("shortest-missing") && number == 0 && report[0] > 1) {

@@ -9,22 +9,12 @@ pub struct Class {
     applies: fn(usize, u8, u8, bool) -> bool,
 }
 
-pub static CLASSES: [Class; 16] = [
+pub static CLASSES: [Class; 14] = [
     Class { name: "two-prefixes", applies: |n, _, _, _| n > 1 },
     Class { name: "later-prefix", applies: |_, c, _, _| matches!(c, 0x64..=0x67) },
     Class { name: "later-opcode", applies: |_, c, _, _| matches!(c, 0x0F | 0x60..=0x63 | 0x68..=0x6F | 0xC0 | 0xC1 | 0xC8 | 0xC9) },
     Class { name: "escape", applies: |_, c, _, _| matches!(c, 0xD8..=0xDF) },
-    Class { name: "wait", applies: |_, c, _, _| c == 0x9B },
     Class { name: "int1", applies: |_, c, _, _| c == 0xF1 },
-    Class {
-        name: "open-form",
-        applies: |_, c, x, _| match c {
-            0x84 | 0x85 | 0xA9 | 0xEB | 0xC2 => true,
-            0x8F | 0xF6 | 0xF7 => n(x) == 0,
-            0xFF => matches!(n(x), 3 | 6),
-            _ => false,
-        },
-    },
     Class { name: "far", applies: |_, c, x, _| matches!(c, 0x9A | 0xCA | 0xCB) || c == 0xFF && n(x) == 5 },
     Class {
         name: "unused-n",
@@ -40,9 +30,10 @@ pub static CLASSES: [Class; 16] = [
     Class { name: "82", applies: |_, c, _, _| c == 0x82 },
     Class { name: "segment-register-4-to-7", applies: |_, c, x, _| matches!(c, 0x8C | 0x8E) && n(x) > 3 },
     Class { name: "into-cs", applies: |_, c, x, _| c == 0x8E && n(x) == 1 },
-    Class { name: "mode-3", applies: |_, c, x, _| matches!(c, 0x8D | 0xC4 | 0xC5) && x >= 0xC0 },
+    Class { name: "mode-3", applies: |_, c, x, _| (matches!(c, 0x8D | 0xC4 | 0xC5) || c == 0xFF && n(x) == 3) && x >= 0xC0 },
     Class { name: "other-base", applies: |_, c, x, _| matches!(c, 0xD4 | 0xD5) && x != 0x0A },
-    Class { name: "prefix-before-lock-or-rep", applies: |n, c, _, _| n == 1 && matches!(c, 0xF0 | 0xF2 | 0xF3) },
+    // by its bytes, as ndisasm gives the prefix to the memory operand of what it joins to these
+    Class { name: "prefix-before-lock-rep-wait", applies: |n, c, _, _| n == 1 && matches!(c, 0xF0 | 0xF2 | 0xF3 | 0x9B) },
     // the last, as it alone goes by what the disassembler says
     Class { name: "prefix-without-memory", applies: |n, _, _, memory| n == 1 && !memory },
 ];
@@ -59,7 +50,6 @@ pub fn of(string: &[u8], memory: bool) -> Option<usize> {
     CLASSES.iter().position(|class| (class.applies)(prefixes, opcode, second, memory))
 }
 
-/// F0, F2 and F3: instructions by themselves here, joined with what follows there.
-pub fn joins(string: &[u8]) -> bool {
-    matches!(string.first(), Some(0xF0 | 0xF2 | 0xF3))
-}
+/// Instructions by themselves here, joined with what follows there: LOCK, REPNE and REP by both, WAIT by ndisasm alone.
+pub const JOINED_BY_ZYDIS: &[u8] = &[0xF0, 0xF2, 0xF3];
+pub const JOINED_BY_NDISASM: &[u8] = &[0xF0, 0xF2, 0xF3, 0x9B];

@@ -1,14 +1,15 @@
 //! None missing, from outside: all strings of 1 to 3 bytes that our table reads, grouped by what a disassembler says that they mean, are our lists.
 
+use crate::classes::{JOINED_BY_NDISASM, JOINED_BY_ZYDIS};
 use crate::groups::{CONDITIONAL, LOOPS};
 use crate::library::{self, Read};
 use crate::meaning::{is_shift, Meaning, Operand, CONVENTIONS};
-use crate::records::{self, hex, op, Record, BYTE, FAR, NEAR, NONE, UNSTATED, WORD};
+use crate::records::{self, hex, op, Record, BYTE, FAR, NEAR, NONE, SHORT, UNSTATED, WORD};
 use crate::reads::told;
 use crate::shapes;
 use crate::strings;
 use crate::zydis::Zydis;
-use crate::{classes, generate, ndisasm, Depth, Failures};
+use crate::{generate, ndisasm, Depth, Failures};
 
 /// Where all strings stand.
 const OFFSET: u16 = 0x8000;
@@ -45,7 +46,9 @@ pub fn record_of(meaning: &Meaning) -> Record {
                     7 if operation == op::XLATB => (0, 7),
                     base => (2, base),
                 };
-                shapes::memory(size, NONE, prefix, mode, rm, displacement as i32, 0)
+                // CALL through memory is near with the width of a word and far without one
+                let jump = if operation == op::CALL && meaning.width == UNSTATED { FAR } else { NONE };
+                shapes::memory(size, jump, prefix, mode, rm, displacement as i32, 0)
             }
             Operand::Immediate(v) => shapes::immediate(UNSTATED, NONE, v as i32, 0),
             Operand::Near(target) => shapes::immediate(UNSTATED, if branch { NONE } else { NEAR }, target as i32, 0),
@@ -57,6 +60,20 @@ pub fn record_of(meaning: &Meaning) -> Record {
     generate::record(operation, count as u8, operand(0), operand(1))
 }
 
+/// Another record of this meaning, where there is one: the operands the other way round, or another kind of JMP.
+fn also(meaning: &Meaning, record: &Record) -> Option<Record> {
+    let mut other = *record;
+    match (meaning.operation, meaning.operands) {
+        (op::XCHG, _) | (op::TEST, [_, Operand::Memory(..)]) => other.operands.swap(0, 1),
+        (op::JMP, [Operand::Near(target), _]) => {
+            let near = (-128..=127).contains(&(target as i32 - (OFFSET as i32 + 2)));
+            other.operands[0].jump = if near { SHORT } else { NONE };
+        }
+        _ => return None,
+    }
+    Some(other)
+}
+
 /// Groups the strings by meaning and lays each group beside the list of a record of that meaning.
 fn compare(name: &str, mut read: Vec<(Meaning, Short)>, used: [u64; CONVENTIONS.len()], entries: &mut dyn FnMut(&Meaning, &[u8], &mut Failures)) -> bool {
     let mut failures = Failures::default();
@@ -66,7 +83,8 @@ fn compare(name: &str, mut read: Vec<(Meaning, Short)>, used: [u64; CONVENTIONS.
         groups += 1;
         alone += (group.len() == 1) as u64;
         let meaning = &group[0].0;
-        let packed = record_of(meaning).pack();
+        let record = record_of(meaning);
+        let packed = record.pack();
         let list = match library::list(&packed, OFFSET) {
             Ok(list) => list,
             Err(number) => {
@@ -74,6 +92,12 @@ fn compare(name: &str, mut read: Vec<(Meaning, Short)>, used: [u64; CONVENTIONS.
                 continue;
             }
         };
+        if let Some(other) = also(meaning, &record).map(|record| record.pack()) {
+            let second = library::list(&other, OFFSET);
+            if second.as_ref() != Ok(&list) {
+                failures.add(&format!("{meaning:?}: record {} lists {list:?}, record {} {second:?}", hex(&packed), hex(&other)));
+            }
+        }
         let ours: Vec<Short> = list.iter().filter(|entry| entry.len() <= 3).map(|entry| short(entry)).collect();
         if !ours.iter().eq(group.iter().map(|(_, string)| string)) {
             let theirs: Vec<String> = group.iter().map(|(_, s)| hex(&s[1..1 + s[0] as usize])).collect();
@@ -100,10 +124,10 @@ fn count(used: &mut [u64; CONVENTIONS.len()], bits: u8) {
     }
 }
 
-/// The strings that our table reads whole. F0, F2 and F3 are left to `alone`.
-fn read_whole(length: usize, visit: &mut dyn FnMut(&[u8])) {
+/// The strings that our table reads whole, without those that the disassembler joins to what follows.
+fn read_whole(length: usize, joins: &[u8], visit: &mut dyn FnMut(&[u8])) {
     strings::all(length, &mut |string| {
-        if matches!(library::read(string, OFFSET), Read::Whole(l, _) if l == length) && !classes::joins(string) {
+        if matches!(library::read(string, OFFSET), Read::Whole(l, _) if l == length) && !joins.contains(&string[0]) {
             visit(string)
         }
     });
@@ -115,7 +139,7 @@ fn by_zydis() -> bool {
     let mut used = [0; CONVENTIONS.len()];
     let mut unread = Failures::default();
     for length in 1..=3 {
-        read_whole(length, &mut |string| {
+        read_whole(length, JOINED_BY_ZYDIS, &mut |string| {
             match zydis.read(string).ok().filter(|d| d.length as usize == length).and_then(|d| zydis.meaning(&d, OFFSET)) {
                 Some((meaning, bits)) => {
                     count(&mut used, bits);
@@ -137,7 +161,7 @@ fn by_zydis() -> bool {
 fn by_ndisasm() -> bool {
     let mut all: Vec<Short> = Vec::new();
     for length in 1..=3 {
-        read_whole(length, &mut |string| all.push(short(string)));
+        read_whole(length, JOINED_BY_NDISASM, &mut |string| all.push(short(string)));
     }
     let mut read = Vec::new();
     let mut used = [0; CONVENTIONS.len()];

@@ -30,7 +30,7 @@ pub enum Said {
     Register8(u8),
     Register16(u8),
     Segment(u8),
-    /// base, displacement, segment (None: no prefix said), size
+    /// base, displacement, segment (None: no prefix said), size; a far pointer's is `POINTER`
     Memory(u8, u16, Option<u8>, u8),
     Immediate(u16),
     /// a near target
@@ -38,9 +38,12 @@ pub enum Said {
     Far(u16, u16),
 }
 
+/// The size of offset and segment in memory, which the far CALL goes through. Document 01 has no such size: the form has no width.
+pub const POINTER: u8 = 3;
+
 /// The conventions by which two answers that look different are the same instruction.
-pub const CONVENTIONS: [&str; 7] =
-    ["xchg-order", "xchg-ax-ax", "default-segment", "sign-extended", "lea-segment", "notrack", "base-ten"];
+pub const CONVENTIONS: [&str; 8] =
+    ["xchg-order", "xchg-ax-ax", "default-segment", "sign-extended", "lea-segment", "notrack", "base-ten", "test-order"];
 /// XCHG has no first and second.
 pub const XCHG_ORDER: u8 = 1;
 /// XCHG AX,AX is NOP.
@@ -55,16 +58,18 @@ pub const LEA_SEGMENT: u8 = 16;
 pub const NOTRACK: u8 = 32;
 /// Zydis writes the base of AAM and AAD.
 pub const BASE_TEN: u8 = 64;
+/// TEST of a register and memory has no first and second; two registers keep their order.
+pub const TEST_ORDER: u8 = 128;
 
 /// The meaning, and by a bit for each the conventions of the answer itself that it took.
 pub type Taken = (Meaning, u8);
 
 /// Names that are not 002's.
-const ALIASES: [(&str, u8); 25] = [
+const ALIASES: [(&str, u8); 26] = [
     ("jz", op::JE), ("jnz", op::JNE), ("jc", op::JB), ("jnc", op::JNB), ("jna", op::JBE), ("ja", op::JNBE), ("jpe", op::JP), ("jpo", op::JNP),
     ("jng", op::JLE), ("jg", op::JNLE), ("jnge", op::JL), ("jge", op::JNL), ("jae", op::JNB), ("loopne", op::LOOPNZ), ("loope", op::LOOPZ),
     ("xlat", op::XLATB), ("sal", op::SHL), ("repe", op::REP), ("repz", op::REP), ("repnz", op::REPNE), ("setalc", op::SALC), ("retn", op::RET),
-    ("iretw", op::IRET), ("pushfw", op::PUSHF), ("popfw", op::POPF),
+    ("iretw", op::IRET), ("pushfw", op::PUSHF), ("popfw", op::POPF), ("fwait", op::WAIT),
 ];
 
 pub fn operation(name: &str) -> Option<u8> {
@@ -123,6 +128,10 @@ pub fn meaning(operation: u8, said: &[Said]) -> Option<Taken> {
             used |= XCHG_AX_AX;
         }
     }
+    if let (op::TEST, [memory @ Operand::Memory(..), register @ Operand::Register(_)]) = (operation, operands) {
+        result.operands = [register, memory];
+        used |= TEST_ORDER;
+    }
     Some((result, used))
 }
 
@@ -140,6 +149,7 @@ fn width(operation: u8, said: &[Said]) -> Option<u8> {
         op::LEA | op::LES | op::LDS => Some(WORD),
         op::CALL | op::JMP => match said {
             [Said::Target(_)] | [Said::Far(..)] => Some(UNSTATED),
+            [Said::Memory(_, _, _, POINTER)] if operation == op::CALL => Some(UNSTATED),
             [Said::Register16(_)] | [Said::Memory(_, _, _, UNSTATED | WORD)] => Some(WORD),
             _ => None,
         },

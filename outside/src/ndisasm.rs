@@ -1,6 +1,6 @@
 //! ndisasm, through its text.
 
-use crate::meaning::{self, Said, Taken, SIGN_EXTENDED};
+use crate::meaning::{self, Said, Taken, POINTER, SIGN_EXTENDED};
 use crate::records::{op, BYTE, UNSTATED, WORD};
 use std::io::{BufRead, BufReader, Write};
 use std::process::{Command, Stdio};
@@ -148,6 +148,10 @@ pub fn meaning(text: &str) -> Option<Taken> {
                 }
                 Some(("word", rest)) => {
                     size = WORD;
+                    rest
+                }
+                Some(("far", rest)) => {
+                    size = POINTER;
                     rest
                 }
                 Some(("short" | "near", rest)) => rest,

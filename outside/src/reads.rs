@@ -1,6 +1,6 @@
 //! Our table beside ndisasm and Zydis: what it reads, they read with the same length and meaning; what they read and it does not has a class.
 
-use crate::classes::{self, CLASSES};
+use crate::classes::{self, CLASSES, JOINED_BY_NDISASM, JOINED_BY_ZYDIS};
 use crate::library::{self, Read};
 use crate::meaning::{Taken, CONVENTIONS};
 use crate::records::{hex, op};
@@ -18,6 +18,8 @@ struct Theirs {
 
 struct Account {
     name: &'static str,
+    /// first bytes that are instructions by themselves here and joined with what follows there
+    joins: &'static [u8],
     /// count only what is read to the last byte of a string, as each is asked with all bytes behind it
     whole: bool,
     strings: u64,
@@ -29,9 +31,10 @@ struct Account {
 }
 
 impl Account {
-    fn new(name: &'static str, whole: bool) -> Account {
+    fn new(name: &'static str, joins: &'static [u8], whole: bool) -> Account {
         Account {
             name,
+            joins,
             whole,
             strings: 0,
             same: 0,
@@ -51,8 +54,13 @@ impl Account {
         let whole = self.whole;
         let counted = |length: usize| (!whole || length == string.len()) as u64;
         match (ours, theirs) {
-            (Read::Whole(1, meaning), _) if classes::joins(string) => {
-                let expected = [op::LOCK, op::REPNE, op::REP][[0xF0, 0xF2, 0xF3].iter().position(|b| *b == string[0]).unwrap()];
+            (Read::Whole(1, meaning), _) if self.joins.contains(&string[0]) => {
+                let expected = match string[0] {
+                    0xF0 => op::LOCK,
+                    0xF2 => op::REPNE,
+                    0xF3 => op::REP,
+                    _ => op::WAIT,
+                };
                 if meaning.operation != expected {
                     self.fail(string, offset, format!("ours {meaning:?}"));
                 }
@@ -89,11 +97,12 @@ impl Account {
     fn report(&self, what: &str, met: &mut [u64; CLASSES.len()]) -> bool {
         met.iter_mut().zip(&self.classes).for_each(|(sum, count)| *sum += count);
         println!(
-            "{}: {what}, {} strings, {} read the same, {} of F0, F2 and F3, {} unexplained",
+            "{}: {what}, {} strings, {} read the same, {} of {}, {} unexplained",
             self.name,
             self.strings,
             self.same,
             self.joined,
+            self.joins.iter().map(|b| format!("{b:02X}")).collect::<Vec<_>>().join(" "),
             self.failures.count()
         );
         let classes: Vec<String> = CLASSES.iter().zip(&self.classes).map(|(class, count)| format!("{} {count}", class.name)).collect();
@@ -115,7 +124,7 @@ fn offset_of(n: u64) -> u16 {
 
 fn by_zydis(depth: Depth, met: &mut [u64; CLASSES.len()]) -> bool {
     let zydis = Zydis::new();
-    let mut account = Account::new("Zydis", true);
+    let mut account = Account::new("Zydis", JOINED_BY_ZYDIS, true);
     let mut asked = 0;
     let mut n = 0;
     let mut visit = |string: &[u8], account: &mut Account| {
@@ -141,7 +150,7 @@ fn by_zydis(depth: Depth, met: &mut [u64; CLASSES.len()]) -> bool {
         strings::all(length, &mut |string| visit(string, &mut account));
     }
     let mut fine = account.report("all strings of 1 to 3 bytes", met);
-    let mut account = Account::new("Zydis", false);
+    let mut account = Account::new("Zydis", JOINED_BY_ZYDIS, false);
     strings::longer(if depth == Depth::Full { 32 } else { 4 }, 8086, &mut |string| visit(&string, &mut account));
     fine &= account.report("each prefix, first and second byte, random bytes behind", met);
     println!("Zydis: {asked} of the strings are answered 11 here, and Zydis has to ask for more of each; where it does not, that is unexplained above");
@@ -149,7 +158,7 @@ fn by_zydis(depth: Depth, met: &mut [u64; CLASSES.len()]) -> bool {
 }
 
 fn by_ndisasm(depth: Depth, met: &mut [u64; CLASSES.len()]) -> bool {
-    let mut account = Account::new("ndisasm", true);
+    let mut account = Account::new("ndisasm", JOINED_BY_NDISASM, true);
     // The heads of two bytes that ndisasm reads no instruction in: only behind them a third byte belongs to the first instruction.
     let mut open = vec![true; 65536];
     for length in 1..=2 {
@@ -177,7 +186,7 @@ fn by_ndisasm(depth: Depth, met: &mut [u64; CLASSES.len()]) -> bool {
     let what = format!("all strings of 1 and 2 bytes, {third} third bytes behind the {} heads that hold no instruction to it", heads.len());
     let mut fine = account.report(&what, met);
 
-    let mut account = Account::new("ndisasm", false);
+    let mut account = Account::new("ndisasm", JOINED_BY_NDISASM, false);
     let mut all = Vec::new();
     strings::longer(if depth == Depth::Full { 4 } else { 1 }, 3013, &mut |string| all.push(string));
     for part in all.chunks(1 << 19) {

@@ -97,6 +97,7 @@ impl Zydis {
                     let size = match operand.size {
                         8 => BYTE,
                         16 => WORD,
+                        32 if operation == op::CALL => meaning::POINTER,
                         _ if matches!(operation, op::LES | op::LDS) => UNSTATED,
                         _ => return None,
                     };

@@ -93,7 +93,8 @@ pub enum Size {
     Word = 2,
 }
 
-/// How far a branch goes, where its text says so.
+/// How far a branch goes, where its text says so. JMP without a kind is written as a near one; a far CALL takes its target's offset and segment
+/// from memory.
 #[allow(missing_docs)]
 #[derive(Clone, Copy, Debug, PartialEq, Eq, Hash)]
 pub enum Jump {
@@ -121,6 +122,7 @@ enum Kind {
 /// Operand::memory(Base::BX_SI, -2).word();                       // word [BX+SI-2]
 /// Operand::address(4660).byte().in_segment(Segment::ES);         // byte ES:[4660]
 /// Operand::from(256).jump(Jump::Short);                          // short 256
+/// Operand::memory(Base::BX, 0).jump(Jump::Far);                  // far [BX]
 /// Operand::far(61440, 65520);                                    // 61440:65520
 /// ```
 #[derive(Clone, Debug, PartialEq, Eq, Hash)]
@@ -187,7 +189,7 @@ impl Operand {
         Operand { segment: Some(segment), ..self }
     }
 
-    /// The same as a target that says how far it is.
+    /// The same as a target, or as memory that holds one, that says how far it is.
     pub fn jump(self, jump: Jump) -> Operand {
         Operand { jump: Some(jump), ..self }
     }

@@ -61,7 +61,7 @@ pub struct Reading {
     pub length: usize,
     /// the operation
     pub operation: Operation,
-    /// the width, where the form has one
+    /// the width, where the form has one; a far CALL through memory has none
     pub width: Option<Size>,
     /// the form's opcode, without a register that is added to it
     pub opcode: u8,
@@ -173,11 +173,12 @@ impl fmt::Display for Reading {
         for (n, part) in self.operands.iter().flatten().enumerate() {
             f.write_str(if n == 0 { " " } else { "," })?;
             if matches!(part, Part::Memory { .. }) && (!said || count) && self.operation != Operation::XLATB {
-                match self.width {
-                    Some(Size::Byte) => f.write_str("byte ")?,
-                    Some(Size::Word) => f.write_str("word ")?,
-                    None => (),
-                }
+                f.write_str(match self.width {
+                    Some(Size::Byte) => "byte ",
+                    Some(Size::Word) => "word ",
+                    // CALL FF /3, the one form with memory and no width
+                    None => "far ",
+                })?;
             }
             write!(f, "{part}")?;
         }

@@ -29,7 +29,7 @@ pub enum Reason {
         /// from the end of the instruction to the target; -128 to 127 can be reached
         distance: i32,
     },
-    /// 7: the encoder does not have this instruction or form.
+    /// 7: the encoder does not have this instruction: INT1 or ESC.
     NotSupported,
     /// 8: the operand count is above 2, or an operand's fields contradict each other.
     NotWellFormed,

@@ -1,7 +1,9 @@
-//! Document 01's bench sheet through the crate: bytes, lists, readings and refusals are that page's, or the SDM's where a line says so.
+//! Document 01's bench sheet and document 02's No. 1 through the crate: bytes, lists, readings and refusals are those pages', or the SDM's
+//! where a line says so.
 
 use fsq::{
-    encode, encode_record, list, load, read, show_file, Base, Instruction, Jump, Operand, Operation::*, Reason, Register::*, Segment,
+    encode, encode_record, list, load, read, show_file, Base, Instruction, Jump, Operand, Operation::*, Part, Reason, Register::*, Segment,
+    Size,
 };
 
 fn hex(text: &str) -> Vec<u8> {
@@ -43,6 +45,27 @@ fn accepted() -> Vec<(Instruction, u16, &'static str, &'static str)> {
         (Instruction::one(JNE, Operand::from(2).jump(Jump::Short)), 0, "75 00", "JNE 2"),
         (Instruction::two(AND, Operand::memory(Base::BP_SI, -2), BX), 0, "21 5A FE", "AND [BP+SI-2],BX"),
         (Instruction::two(OR, CH, Operand::memory(Base::DI, 200)), 0, "0A AD C8 00", "OR CH,[DI+200]"),
+        // Document 02, No. 1. TEST of a register and memory has no first and second; the reader puts the register first.
+        (Instruction::two(TEST, AX, BX), 0, "85 D8", "TEST AX,BX"),
+        (Instruction::two(TEST, BX, AX), 0, "85 C3", "TEST BX,AX"),
+        (Instruction::two(TEST, at_bx(), CL), 0, "84 0F", "TEST CL,[BX]"),
+        (Instruction::two(TEST, CL, at_bx()), 0, "84 0F", "TEST CL,[BX]"),
+        (Instruction::two(TEST, AX, 5), 0, "A9 05 00", "TEST AX,5"),
+        (Instruction::two(TEST, BL, 255), 0, "F6 C3 FF", "TEST BL,255"),
+        (Instruction::two(TEST, at_bx().byte(), 5), 0, "F6 07 05", "TEST byte [BX],5"),
+        (Instruction::two(TEST, at_bx().word(), 65535), 0, "F7 07 FF FF", "TEST word [BX],65535"),
+        (Instruction::one(PUSH, AX), 0, "50", "PUSH AX"),
+        (Instruction::one(PUSH, at_bx().word()), 0, "FF 37", "PUSH word [BX]"),
+        (Instruction::one(POP, at_bx().word().in_segment(Segment::ES)), 0, "26 8F 07", "POP word ES:[BX]"),
+        (Instruction::one(RET, 4), 0, "C2 04 00", "RET 4"),
+        (Instruction::one(RET, 0), 0, "C2 00 00", "RET 0"),
+        (Instruction::one(CALL, at_bx().jump(Jump::Far)), 0, "FF 1F", "CALL far [BX]"),
+        (Instruction::one(CALL, at_bx().word().jump(Jump::Far)), 0, "FF 1F", "CALL far [BX]"),
+        (Instruction::one(CALL, at_bx().word().jump(Jump::Near)), 0, "FF 17", "CALL word [BX]"),
+        (Instruction::one(JMP, Operand::from(129).jump(Jump::Short)), 0, "EB 7F", "JMP 129"),
+        (Instruction::one(JMP, Operand::from(129).jump(Jump::Near)), 0, "E9 7E 00", "JMP 129"),
+        (Instruction::one(JMP, 5), 0, "E9 02 00", "JMP 5"),
+        (Instruction::none(WAIT), 0, "9B", "WAIT"),
     ]
 }
 
@@ -77,8 +100,20 @@ fn refusals() {
         (Instruction::two(ADD, AX, -1), 5, "value -1 is outside 0..255"),
         (Instruction::two(MOV, at_bx().byte(), 300), 5, "value 300 is outside -128..255"),
         (Instruction::one(JE, 130), 6, "the target is 128 bytes away, outside -128..127"),
-        (Instruction::none(WAIT), 7, "the encoder does not have this instruction"),
+        (Instruction::none(INT1), 7, "the encoder does not have this instruction"),
+        (Instruction::none(ESC), 7, "the encoder does not have this instruction"),
         (Instruction::two(MOV, AX, Operand::memory(Base::BX, 65536)), 8, "the fields of the record contradict each other"),
+        // Document 02, No. 1.
+        (Instruction::two(TEST, BL, 300), 5, "value 300 is outside 0..255"),
+        (Instruction::two(TEST, at_bx().word(), -1), 5, "value -1 is outside 0..65535"),
+        (Instruction::one(PUSH, at_bx().byte()), 1, "the operation does not take these operands"),
+        (Instruction::one(PUSH, at_bx()), 1, "the operation does not take these operands"),
+        (Instruction::one(POP, at_bx()), 4, "the operation does not take an operand of this size"),
+        (Instruction::one(RET, 65536), 5, "value 65536 is outside 0..65535"),
+        (Instruction::one(RET, AX), 1, "the operation does not take these operands"),
+        (Instruction::one(CALL, at_bx().byte().jump(Jump::Far)), 1, "the operation does not take these operands"),
+        (Instruction::one(JMP, Operand::from(65536).jump(Jump::Short)), 5, "value 65536 is outside 0..65535"),
+        (Instruction::one(JMP, Operand::from(130).jump(Jump::Short)), 6, "the target is 128 bytes away, outside -128..127"),
     ];
     for (instruction, number, text) in rows {
         let refusal = encode(&instruction, 0).unwrap_err();
@@ -88,6 +123,53 @@ fn refusals() {
         let of_record = load(&show_file(65535, &[Instruction::none(NOP), instruction])).unwrap_err();
         assert_eq!(of_record.to_string(), format!("record 1: {text}"));
         assert_eq!((of_record.reason, of_record.record), (refusal.reason, Some(1)));
+    }
+}
+
+/// Document 02, No. 1: E9 and EB to one target are the same instruction, as are 50 and FF F0; two registers of TEST keep their order; RET 0 is not
+/// RET. The other strings of a list are the SDM's forms.
+#[test]
+fn lists_of_the_added_forms() {
+    let at_bx = || Operand::memory(Base::BX, 0);
+    let rows = [
+        (Instruction::two(TEST, AL, 5), 0, "A8 05\nF6 C0 05\n"),
+        (Instruction::two(TEST, AX, 5), 0, "A9 05 00\nF7 C0 05 00\n"),
+        (Instruction::two(TEST, AX, BX), 0, "85 D8\n"),
+        (Instruction::two(TEST, BX, AX), 0, "85 C3\n"),
+        (Instruction::one(PUSH, AX), 0, "50\nFF F0\n"),
+        (Instruction::one(POP, AX), 0, "58\n8F C0\n"),
+        (Instruction::one(PUSH, at_bx().word()), 0, "FF 37\n3E FF 37\nFF 77 00\n3E FF 77 00\nFF B7 00 00\n3E FF B7 00 00\n"),
+        (Instruction::one(CALL, at_bx().jump(Jump::Far)), 0, "FF 1F\n3E FF 1F\nFF 5F 00\n3E FF 5F 00\nFF 9F 00 00\n3E FF 9F 00 00\n"),
+        (Instruction::none(RET), 0, "C3\n"),
+        (Instruction::one(RET, 0), 0, "C2 00 00\n"),
+        (Instruction::one(JMP, 100), 0, "EB 62\nE9 61 00\n"),
+        (Instruction::one(JMP, Operand::from(100).jump(Jump::Short)), 0, "EB 62\nE9 61 00\n"),
+        (Instruction::one(JMP, 130), 0, "E9 7F 00\n"),
+        (Instruction::one(JMP, 0), 65534, "EB 00\nE9 FF FF\n"),
+        (Instruction::none(WAIT), 0, "9B\n"),
+    ];
+    for (instruction, offset, strings) in rows {
+        assert_eq!(list(&instruction, offset).unwrap().to_string(), strings, "{instruction:?}");
+    }
+    let (one, other) = (Instruction::two(TEST, at_bx(), CL), Instruction::two(TEST, CL, at_bx()));
+    assert_eq!(list(&one, 0), list(&other, 0));
+}
+
+/// Document 02, No. 1: what the reader answers of a far and a near CALL through memory, of RET and of what it still does not read.
+#[test]
+fn readings_of_the_added_forms() {
+    let memory = Some(Part::Memory { base: Some(Base::BX), displacement: 0, segment: Segment::DS });
+    let (far, near) = (read(&hex("FF 1F"), 0).unwrap(), read(&hex("FF 17"), 0).unwrap());
+    assert_eq!((far.width, far.operands), (None, [memory, None]));
+    assert_eq!((near.width, near.operands), (Some(Size::Word), [memory, None]));
+    let ret = read(&hex("C2 00 00"), 0).unwrap();
+    assert_eq!((ret.operation, ret.width, ret.operands), (RET, None, [Some(Part::Immediate(0)), None]));
+    assert_eq!(read(&hex("C3"), 0).unwrap().operands, [None, None]);
+    for bytes in ["FF D8", "FF 28", "FF 38", "8F 08", "F6 08", "F7 C8", "9A", "F1", "D8", "26 9B", "26 EB", "26 8F C0"] {
+        assert_eq!(read(&hex(bytes), 0).unwrap_err().reason, Reason::NotAnInstruction, "{bytes}");
+    }
+    for bytes in ["84", "A9 05", "F6 C0", "F7 C0 05", "8F", "FF 5F", "C2 04", "EB", "26 85"] {
+        assert_eq!(read(&hex(bytes), 0).unwrap_err().reason, Reason::NotComplete, "{bytes}");
     }
 }
 
@@ -120,6 +202,13 @@ fn spans_come_back() {
     assert_eq!(encode(&add, 0).unwrap_err().span, Some(7..9));
     let pop = Instruction::one(POP, Operand::from(Segment::CS).at(4..6)).at(0..6);
     assert_eq!(encode(&pop, 0).unwrap_err().span, Some(0..6));
+    // Document 02, No. 1.
+    let push = Instruction::one(PUSH, Operand::memory(Base::BX, 0).at(5..9)).at(0..9);
+    assert_eq!(encode(&push, 0).unwrap_err().span, Some(5..9));
+    let ret = Instruction::one(RET, Operand::from(AX).at(4..6)).at(0..6);
+    assert_eq!(encode(&ret, 0).unwrap_err().span, Some(0..6));
+    let ret = Instruction::one(RET, Operand::from(-1).at(4..6)).at(0..6);
+    assert_eq!(encode(&ret, 0).unwrap_err().span, Some(4..6));
 }
 
 /// The header's operations are this crate's, in one order.

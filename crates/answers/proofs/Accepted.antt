@@ -16,14 +16,15 @@ use Rattle.mrc_compiler.specs.Operations.{sameOperation}
 use Rattle.x86.specs.declared.Instruction.{Instruction}
 use Rattle.x86.specs.Instructions.{canonical}
 use Rattle.x86.specs.Forms.{Slot, Form, forms}
-use Rattle.x86.specs.Reading.{widthOf}
-use Rattle.x86.proofs.Tests.{kept}
+use Rattle.x86.specs.Reading.{keep, widthOf}
+use Rattle.x86.proofs.Tests.{kept, passed}
 use Rattle.answers.specs.Records.{dst, src}
 use Rattle.answers.specs.WellFormed.{wellFormed}
 use Rattle.groups.specs.declared.Group.{Group}
 use Rattle.groups.specs.Grouping.{groupOf}
+use Rattle.answers.specs.Rules.{rule}
 use Rattle.answers.specs.Meaning.{meaning}
-use Rattle.answers.specs.Choice.{Choice, none, straight, crossed, takes, sizeIn, choose, countTaken, eitherWay, formsOf}
+use Rattle.answers.specs.Choice.{Choice, none, straight, crossed, takes, sizeIn, choose, countBy, eitherWay, formsOf}
 use Rattle.answers.specs.Layout.{layout}
 use Rattle.answers.specs.Limits.{Asked, ofSlot}
 use Rattle.answers.specs.Questions.{isForm, formAsked, chosen, questions}
@@ -131,33 +132,37 @@ module _ (insn : InstructionData) (off : ℕ) (h : off < 65536) where
   abbrev b : OperandData
   b = src insn
 
+  -- the forms at the record's count
+  abbrev counted-forms : List Form
+  counted-forms = keep (countBy (rule g .special) (insn .«num_opers»)) (formsOf op)
+
+  listed-of : {f : Form} → List·Memᴰ f counted-forms → List·Memᴰ f (formsOf op)
+  listed-of m = kept (countBy (rule g .special) (insn .«num_opers»)) (formsOf op) m
+
+  counted-of : {f : Form} → List·Memᴰ f counted-forms → countBy (rule g .special) (insn .«num_opers») f ≡ true
+  counted-of m = passed (countBy (rule g .special) (insn .«num_opers»)) (formsOf op) m
+
   -- where the form is chosen with the operands as they stand, and where they are crossed
-  chosen-reads : (c : Choice) → Picked (eitherWay g) (formsOf op) (sizeIn g a b a) a (sizeIn g a b b) b c → wellFormed a ≡ true → wellFormed b ≡ true
+  chosen-reads : (c : Choice) → Picked (eitherWay g a b) counted-forms (sizeIn g a b a) a (sizeIn g a b b) b c → wellFormed a ≡ true → wellFormed b ≡ true
       → isForm c ≡ true → firstNo (formAsked g c off a b) ≡ all-yes → Reads off (meaning insn) (written c off a b)
   chosen-reads none p wa wb e q = false-true e
   chosen-reads (straight f) p wa wb e q =
       let y = parts (ofSlot g (f .first) (f .first) off a) (ofSlot g (f .first) (f .second) off b) q in
-      subst (λ (m : Instruction). Reads off m (layout f off a b)) (all-at (by-operation op .leaves) (p .listed) .means a b (p .first) (p .second))
-      (form-reads op off h a b f (p .listed) (given op off (f .first) a _ (f .first) (p .first) wa (y .0))
+      subst (λ (m : Instruction). Reads off m (layout f off a b)) (all-at (by-operation op .leaves) (listed-of (p .listed)) .means (insn .«num_opers») a b (counted-of (p .listed)) (p .first) (p .second))
+      (form-reads op off h a b f (listed-of (p .listed)) (given op off (f .first) a _ (f .first) (p .first) wa (y .0))
       (given op off (f .second) b _ (f .first) (p .second) wb (y .1)))
   chosen-reads (crossed f) p wa wb e q =
       let y = parts (ofSlot g (f .first) (f .first) off b) (ofSlot g (f .first) (f .second) off a) q in
       subst (λ (m : Instruction). Reads off m (layout f off b a))
-      (all-at (by-operation op .crosses (p .1)) (p .0 .listed) .crossed a b (p .0 .first) (p .0 .second))
-      (form-reads op off h b a f (p .0 .listed) (given op off (f .first) b _ (f .first) (p .0 .first) wb (y .0))
+      (all-at (by-operation op .crosses) (listed-of (p .0 .listed)) .crossed (insn .«num_opers») a b (p .1) (p .0 .first) (p .0 .second))
+      (form-reads op off h b a f (listed-of (p .0 .listed)) (given op off (f .first) b _ (f .first) (p .0 .first) wb (y .0))
       (given op off (f .second) a _ (f .first) (p .0 .second) wa (y .1)))
-
-  -- whether or not the count is taken
-  choice-picked : (i : Bool)
-      → Picked (eitherWay g) (formsOf op) (sizeIn g a b a) a (sizeIn g a b b) b (pick i (choose (eitherWay g) (formsOf op) (sizeIn g a b a) a (sizeIn g a b b) b) none)
-  choice-picked true = picked (eitherWay g) (sizeIn g a b a) a (sizeIn g a b b) b (formsOf op)
-  choice-picked false = tt
 
   all-yes-reads : firstNo (questions insn off) ≡ all-yes → Reads off (meaning insn) (written (chosen insn) off a b)
   unfolding questions
   all-yes-reads e =
       let qs = questions insn off in
-      chosen-reads (chosen insn) (choice-picked (countTaken g (insn .«num_opers»))) (every qs e 1) (every qs e 2) (every qs e 7) (later qs e 8)
+      chosen-reads (chosen insn) (picked (eitherWay g a b) (sizeIn g a b a) a (sizeIn g a b b) b counted-forms) (every qs e 1) (every qs e 2) (every qs e 7) (later qs e 8)
 
 -- what encode accepts at an offset below 65,536 reads as what the record means, to the last byte, in 1 to 7 bytes
 pub accepted-reads : (insn : InstructionData) (off : ℕ) → off < 65536 → (bs : List ℕ) → answer insn off ≡ bytes bs → Reads off (meaning insn) bs

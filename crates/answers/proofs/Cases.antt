@@ -1,4 +1,5 @@
--- The bench sheet's encoder rows (document 01), at every offset where the row names none. P marks the rows that 01 marks.
+-- The bench sheet's encoder rows (document 01) and those of the forms that 000 leaves open (No. 1), at every offset where the row names none. P marks the rows
+-- that 01 marks.
 -- Assumes nothing.
 use mathlib.Core.Path.{_≡_, refl}
 use mathlib.Core.Bool.{true}
@@ -6,11 +7,14 @@ use mathlib.Core.List.{[], _∷_}
 use Prim.Native.Nat.{ℕ}
 use lib.IntN.{ℤ, pos, negsuc}
 use Rattle.mrc_compiler.specs.declared.ast.Span.{Span}
+use Rattle.mrc_compiler.specs.declared.ast.OptionDataSize.{OptionDataSize}
 use Rattle.mrc_compiler.specs.declared.ast.OptionDataSize.the-variants as OD
 use Rattle.mrc_compiler.specs.declared.ast.DataSize.the-variants as D
 use Rattle.mrc_compiler.specs.declared.ast.OptionSegment.the-variants as OG
 use Rattle.mrc_compiler.specs.declared.encoder.EncodeError.the-variants as E
 use Rattle.mrc_compiler.specs.declared.encoder.InstructionData.{InstructionData}
+use Rattle.mrc_compiler.specs.declared.encoder.JumpKind.{JumpKind}
+use Rattle.mrc_compiler.specs.declared.encoder.JumpKind.the-variants as J
 use Rattle.mrc_compiler.specs.declared.encoder.OperandData.{OperandData}
 use Rattle.mrc_compiler.specs.declared.encoder.OperandSize.the-variants as S
 use Rattle.mrc_compiler.specs.declared.operations.Operation.{Operation}
@@ -52,6 +56,35 @@ withTwo op a b = twoOperands whole op a b
 abbrev to : Operation → ℤ → InstructionData
 to op z = withOne op (immediateOperand one z)
 
+-- an operand with this kind of jump
+abbrev ofKind : JumpKind → OperandData → OperandData
+ofKind j o = record {
+  span = o .span;
+  kind = o .kind;
+  size = o .size;
+  «segment_prefix» = o .«segment_prefix»;
+  displacement = o .displacement;
+  «displacement_size» = o .«displacement_size»;
+  mode = o .mode;
+  rm = o .rm;
+  imm = o .imm;
+  «jmp_kind» = j;
+}
+
+abbrev targetOf : JumpKind → ℤ → OperandData
+targetOf j z = ofKind j (immediateOperand one z)
+
+-- [BX] of this size
+abbrev bx : Span → OptionDataSize → OperandData
+bx s z = indirectOperand s 7 (pos 0) z OG.None
+
+abbrev through : JumpKind → OptionDataSize → OperandData
+through j z = ofKind j (bx one z)
+
+-- RET with one operand
+abbrev return : OperandData → InstructionData
+return a = withOne Op.RET a
+
 pub record Rows (off : ℕ) : Type 0 where
   pub mov-ax-4660 : answer (withTwo Op.MOV ax (immediate (pos 4660))) off ≡ bytes (0xB8 ∷ 0x34 ∷ 0x12 ∷ [])  -- P
   pub aam : answer (noOperands whole Op.AAM) off ≡ bytes (0xD4 ∷ 0x0A ∷ [])  -- P
@@ -72,6 +105,43 @@ pub record Rows (off : ℕ) : Type 0 where
   pub mov-al-bp : answer (withTwo Op.MOV (registerOperand one 0 S.Byte) (indirectOperand two 6 (pos 0) OD.None OG.None)) off ≡ bytes (0x8A ∷ 0x46 ∷ 0x00 ∷ [])  -- P
   pub mov-byte-bx-255 : answer (withTwo Op.MOV (indirectOperand one 7 (pos 0) (OD.Some D.Byte) OG.None) (immediate (pos 255))) off ≡ bytes (0xC6 ∷ 0x07 ∷ 0xFF ∷ [])
   pub mov-byte-bx-300 : answer (withTwo Op.MOV (indirectOperand one 7 (pos 0) (OD.Some D.Byte) OG.None) (immediate (pos 300))) off ≡ refused (E.ImmediateOutOfRange two (pos 300) (negsuc 127) (pos 255))
+  -- No. 1
+  pub test-ax-bx : answer (withTwo Op.TEST ax (registerOperand two 3 S.Word)) off ≡ bytes (0x85 ∷ 0xD8 ∷ [])
+  pub test-bx-ax : answer (withTwo Op.TEST (registerOperand one 3 S.Word) (registerOperand two 0 S.Word)) off ≡ bytes (0x85 ∷ 0xC3 ∷ [])
+  pub test-bx-cl : answer (withTwo Op.TEST (bx one OD.None) (registerOperand two 1 S.Byte)) off ≡ bytes (0x84 ∷ 0x0F ∷ [])
+  pub test-cl-bx : answer (withTwo Op.TEST (registerOperand one 1 S.Byte) (bx two OD.None)) off ≡ bytes (0x84 ∷ 0x0F ∷ [])
+  pub test-ax-5 : answer (withTwo Op.TEST ax (immediate (pos 5))) off ≡ bytes (0xA9 ∷ 0x05 ∷ 0x00 ∷ [])
+  pub test-bl-255 : answer (withTwo Op.TEST (registerOperand one 3 S.Byte) (immediate (pos 255))) off ≡ bytes (0xF6 ∷ 0xC3 ∷ 0xFF ∷ [])
+  pub test-bl-300 : answer (withTwo Op.TEST (registerOperand one 3 S.Byte) (immediate (pos 300))) off ≡ refused (E.ImmediateOutOfRange two (pos 300) (pos 0) (pos 255))
+  pub test-word-bx : answer (withTwo Op.TEST (bx one (OD.Some D.Word)) (immediate (pos 65535))) off ≡ bytes (0xF7 ∷ 0x07 ∷ 0xFF ∷ 0xFF ∷ [])
+  pub test-word-minus-1 : answer (withTwo Op.TEST (bx one (OD.Some D.Word)) (immediate (negsuc 0))) off ≡ refused (E.ImmediateOutOfRange two (negsuc 0) (pos 0) (pos 65535))
+  pub test-5-al : answer (withTwo Op.TEST (immediateOperand one (pos 5)) (registerOperand two 0 S.Byte)) off ≡ refused (E.InvalidOperands whole)
+  pub push-word-bx : answer (withOne Op.PUSH (bx one (OD.Some D.Word))) off ≡ bytes (0xFF ∷ 0x37 ∷ [])
+  pub push-byte-bx : answer (withOne Op.PUSH (bx one (OD.Some D.Byte))) off ≡ refused (E.InvalidOperands one)
+  pub push-unstated-bx : answer (withOne Op.PUSH (bx one OD.None)) off ≡ refused (E.InvalidOperands one)
+  pub pop-word-bx : answer (withOne Op.POP (bx one (OD.Some D.Word))) off ≡ bytes (0x8F ∷ 0x07 ∷ [])
+  pub pop-byte-bx : answer (withOne Op.POP (bx one (OD.Some D.Byte))) off ≡ refused (E.InvalidOperandSize one)
+  pub ret : answer (noOperands whole Op.RET) off ≡ bytes (0xC3 ∷ [])
+  pub ret-0 : answer (return (immediateOperand one (pos 0))) off ≡ bytes (0xC2 ∷ 0x00 ∷ 0x00 ∷ [])
+  pub ret-65535 : answer (return (targetOf J.Far (pos 65535))) off ≡ bytes (0xC2 ∷ 0xFF ∷ 0xFF ∷ [])
+  pub ret-two : answer (withTwo Op.RET (immediateOperand one (pos 4)) ax) off ≡ bytes (0xC2 ∷ 0x04 ∷ 0x00 ∷ [])
+  pub ret-minus-1 : answer (return (immediateOperand one (negsuc 0))) off ≡ refused (E.ImmediateOutOfRange one (negsuc 0) (pos 0) (pos 65535))
+  pub ret-ax : answer (return ax) off ≡ refused (E.InvalidOperands whole)
+  pub call-far-bx : answer (withOne Op.CALL (through J.Far OD.None)) off ≡ bytes (0xFF ∷ 0x1F ∷ [])
+  pub call-far-word-bx : answer (withOne Op.CALL (through J.Far (OD.Some D.Word))) off ≡ bytes (0xFF ∷ 0x1F ∷ [])
+  pub call-far-byte-bx : answer (withOne Op.CALL (through J.Far (OD.Some D.Byte))) off ≡ refused (E.InvalidOperands whole)
+  pub call-near-bx : answer (withOne Op.CALL (through J.Near OD.None)) off ≡ bytes (0xFF ∷ 0x17 ∷ [])
+  pub jmp-far-bx : answer (withOne Op.JMP (through J.Far OD.None)) off ≡ refused (E.InvalidOperands one)
+  pub jmp-short : answer (withOne Op.JMP (targetOf J.Short (pos 129))) 0 ≡ bytes (0xEB ∷ 0x7F ∷ [])
+  pub jmp-short-130 : answer (withOne Op.JMP (targetOf J.Short (pos 130))) 0 ≡ refused (E.RelativeJumpOutOfRange one S.Byte true (pos 128))
+  pub jmp-short-back : answer (withOne Op.JMP (targetOf J.Short (pos 130))) 256 ≡ bytes (0xEB ∷ 0x80 ∷ [])
+  pub jmp-short-wraps-not : answer (withOne Op.JMP (targetOf J.Short (pos 0))) 65534 ≡ refused (E.RelativeJumpOutOfRange one S.Byte true (negsuc 65535))
+  pub jmp-short-minus-1 : answer (withOne Op.JMP (targetOf J.Short (negsuc 0))) off ≡ refused (E.ImmediateOutOfRange one (negsuc 0) (pos 0) (pos 65535))
+  pub jmp-short-65536 : answer (withOne Op.JMP (targetOf J.Short (pos 65536))) off ≡ refused (E.ImmediateOutOfRange one (pos 65536) (pos 0) (pos 65535))
+  pub jmp-no-kind : answer (to Op.JMP (pos 5)) 0 ≡ bytes (0xE9 ∷ 0x02 ∷ 0x00 ∷ [])
+  pub wait : answer (noOperands whole Op.WAIT) off ≡ bytes (0x9B ∷ [])
+  pub int1 : answer (noOperands whole Op.INT1) off ≡ refused (E.NotSupported whole)
+  pub esc : answer (noOperands whole Op.ESC) off ≡ refused (E.NotSupported whole)
 
 rows : (off : ℕ) → Rows off
 unfolding answer questions wellFormed prefix groupedOf formsOf forms numberOf layout
@@ -95,4 +165,40 @@ rows off = record {
   mov-al-bp = refl;
   mov-byte-bx-255 = refl;
   mov-byte-bx-300 = refl;
+  test-ax-bx = refl;
+  test-bx-ax = refl;
+  test-bx-cl = refl;
+  test-cl-bx = refl;
+  test-ax-5 = refl;
+  test-bl-255 = refl;
+  test-bl-300 = refl;
+  test-word-bx = refl;
+  test-word-minus-1 = refl;
+  test-5-al = refl;
+  push-word-bx = refl;
+  push-byte-bx = refl;
+  push-unstated-bx = refl;
+  pop-word-bx = refl;
+  pop-byte-bx = refl;
+  ret = refl;
+  ret-0 = refl;
+  ret-65535 = refl;
+  ret-two = refl;
+  ret-minus-1 = refl;
+  ret-ax = refl;
+  call-far-bx = refl;
+  call-far-word-bx = refl;
+  call-far-byte-bx = refl;
+  call-near-bx = refl;
+  jmp-far-bx = refl;
+  jmp-short = refl;
+  jmp-short-130 = refl;
+  jmp-short-back = refl;
+  jmp-short-wraps-not = refl;
+  jmp-short-minus-1 = refl;
+  jmp-short-65536 = refl;
+  jmp-no-kind = refl;
+  wait = refl;
+  int1 = refl;
+  esc = refl;
 }

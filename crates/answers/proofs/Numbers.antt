@@ -13,22 +13,22 @@ use Rattle.mrc_compiler.specs.declared.encoder.generate.At.{At}
 use Rattle.mrc_compiler.specs.declared.encoder.generate.At.the-variants as At
 use Rattle.mrc_compiler.specs.Choose.{pick, both, either, byJump}
 use Rattle.mrc_compiler.specs.Refusals.{reportOf}
-use Rattle.x86.specs.Forms.{Slot, rm, rm-near, mem, reg, sreg, sreg-not-cs, acc, low3, bits34, bits34-not-cs, CL, DX, one, moffs, xlat, ib, iw, ib-sx, cb, cw, ptr, nil, Form}
+use Rattle.x86.specs.Forms.{Slot, rm, rm-near, mem, mem-far, reg, sreg, sreg-not-cs, acc, low3, bits34, bits34-not-cs, CL, DX, one, moffs, xlat, ib, iw, ib-sx, cb, cw, ptr, nil, Form}
 use Rattle.answers.specs.Records.{dst, src}
 use Rattle.groups.specs.declared.Group.{Group}
 use Rattle.groups.specs.declared.Group.the-variants as G
 use Rattle.groups.specs.Grouping.{groupOf}
 use Rattle.answers.specs.Operands.{ifImm, ifRm}
-use Rattle.answers.specs.Rules.{Sizing, unasked, either-states, first-states, first-is-word, Refusal, refusal, open-where, at-operands, at-first, test-open, stack-open, call-open, jump-open, rule}
+use Rattle.answers.specs.Rules.{Sizing, unasked, either-states, first-states, first-is-word, Refusal, refusal, at-operands, at-first, rule}
 use Rattle.answers.specs.Choice.{Choice, none, straight, crossed}
 use Rattle.answers.specs.Limits.{Asked, ofSlot, ofForm}
 use Rattle.answers.specs.Questions.{Ask, errorOf, statedBy, sizeStated, formFound, groupAsks, withSpan, wellFormedAsked, formAsked, chosen, questions}
 
--- 1: 8. 2: 7. 3: 2 or 4. 4: 3. 5: 1, 4 or 7. 6: 5. 7: 6
+-- 1: 8. 2: 7. 3: 2 or 4. 4: 3. 5: 1 or 4. 6: 5. 7: 6
 abbrev pub gives : ℕ → ℕ → Bool
 gives n r =
     pick (eqb n 1) (eqb r 8) (pick (eqb n 2) (eqb r 7) (pick (eqb n 3) (either (eqb r 2) (eqb r 4)) (pick (eqb n 4) (eqb r 3)
-    (pick (eqb n 5) (either (eqb r 1) (either (eqb r 4) (eqb r 7))) (pick (eqb n 6) (eqb r 5) (both (eqb n 7) (eqb r 6)))))))
+    (pick (eqb n 5) (either (eqb r 1) (eqb r 4)) (pick (eqb n 6) (eqb r 5) (both (eqb n 7) (eqb r 6)))))))
 
 abbrev pub numbered : List Asked → Bool
 numbered [] = true
@@ -75,11 +75,7 @@ sized-by either-states a b h = refl
 sized-by (first-states why at) a b h = h
 sized-by first-is-word a b h = refl
 
--- question 5 has refusal 1, 4 or 7
-opened : (t : Bool) (r : Refusal) → gives 5 (numberFor (r .why)) ≡ true → gives 5 (numberFor (open-where t r .why)) ≡ true
-opened true r h = refl
-opened false r h = h
-
+-- question 5 has refusal 1 or 4
 one-of : (t : Bool) (r s : Refusal) → gives 5 (numberFor (r .why)) ≡ true → gives 5 (numberFor (s .why)) ≡ true
     → gives 5 (numberFor (pick t r s .why)) ≡ true
 one-of true r s h k = h
@@ -97,23 +93,17 @@ given : (g : Group) → Given g
 given G.Arithmetic = ordinarily refl (λ a b. refl)
 given G.Unary = ordinarily refl (λ a b. refl)
 given G.Mov = ordinarily refl (λ a b. refl)
-given G.Test = ordinarily refl (λ a b. opened (test-open a b) (at-operands a b) refl)
+given G.Test = ordinarily refl (λ a b. refl)
 given G.Xchg = ordinarily refl (λ a b. refl)
 given G.IncDec = ordinarily refl (λ a b. refl)
-given G.Push = ordinarily refl (λ a b. opened (stack-open a) (at-first a b) refl)
-given G.Pop =
-    ordinarily refl
-    (λ a b. opened (stack-open a) (pick (ifImm a true) (refusal W.InvalidOperandSize At.First) (at-operands a b))
-    (one-of (ifImm a true) (refusal W.InvalidOperandSize At.First) (at-operands a b) refl refl))
+given G.Push = ordinarily refl (λ a b. refl)
+given G.Pop = ordinarily refl (λ a b. one-of (ifImm a true) (refusal W.InvalidOperandSize At.First) (at-operands a b) refl refl)
 given G.Ret = ordinarily refl (λ a b. refl)
 given G.Lea = ordinarily refl (λ a b. refl)
 given G.LesLds = ordinarily refl (λ a b. refl)
 given G.Shift = ordinarily refl (λ a b. refl)
-given G.Call = ordinarily refl (λ a b. opened (call-open a) (at-operands a b) refl)
-given G.Jmp =
-    ordinarily refl
-    (λ a b. let t = ifRm a (byJump (a .«jmp_kind») false true false true) in
-    opened (jump-open a) (pick t (at-first a b) (at-operands a b)) (one-of t (at-first a b) (at-operands a b) refl refl))
+given G.Call = ordinarily refl (λ a b. refl)
+given G.Jmp = ordinarily refl (λ a b. one-of (ifRm a (byJump (a .«jmp_kind») false true false true)) (at-first a b) (at-operands a b) refl refl)
 given G.Jcc = ordinarily refl (λ a b. refl)
 given G.Loopc = ordinarily refl (λ a b. refl)
 given G.NoOperands = ordinarily refl (λ a b. refl)
@@ -130,6 +120,7 @@ of-slot : (g : Group) (f s : Slot) (off : ℕ) (o : OperandData) → numbered (o
 of-slot g f (rm w) off o = refl
 of-slot g f rm-near off o = refl
 of-slot g f mem off o = refl
+of-slot g f mem-far off o = refl
 of-slot g f (reg w) off o = refl
 of-slot g f sreg off o = refl
 of-slot g f sreg-not-cs off o = refl

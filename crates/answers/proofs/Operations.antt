@@ -1,23 +1,23 @@
 -- Every operation has the forms of its group's block, and its operands an order or none as its group says.
 -- Assumes nothing.
-use mathlib.Core.Path.{_≡_, refl, sym, _∙_, subst}
+use mathlib.Core.Path.{_≡_, refl, sym, subst}
 use mathlib.Core.Bool.{true}
 use mathlib.Core.List.{List}
 use Rattle.mrc_compiler.specs.declared.operations.Operation.{Operation}
 use Rattle.mrc_compiler.specs.declared.operations.Operation.the-variants as Op
 use Rattle.mrc_compiler.specs.Operations.{numberOf}
-use Rattle.x86.specs.Instructions.{symmetric}
 use Rattle.x86.specs.Forms.{Form, forms}
 use Rattle.groups.specs.Grouping.{groupedOf, groupOf, baseOf}
+use Rattle.answers.specs.Rules.{rule}
 use Rattle.answers.specs.Blocks.{block}
-use Rattle.answers.specs.Choice.{eitherWay, formsOf}
-use Rattle.answers.proofs.Meanings.{Leaf, All, Crosses, leaves, crosses}
+use Rattle.answers.specs.Choice.{formsOf}
+use Rattle.answers.proofs.Meanings.{Leaf, All, Crosses, orderOf, leaves, crosses}
 
 pub record InTable (op : Operation) : Type 0 where
   pub forms-are : formsOf op ≡ block (groupOf op) (baseOf op) op
-  pub order-is : eitherWay (groupOf op) ≡ symmetric op
+  pub order-is : orderOf (rule (groupOf op) .special) op ≡ true
 
-told : {op : Operation} → formsOf op ≡ block (groupOf op) (baseOf op) op → eitherWay (groupOf op) ≡ symmetric op → InTable op
+told : {op : Operation} → formsOf op ≡ block (groupOf op) (baseOf op) op → orderOf (rule (groupOf op) .special) op ≡ true → InTable op
 told f o = record { forms-are = f; order-is = o }
 
 -- the list of forms, cut by operation
@@ -127,13 +127,12 @@ in-table Op.SALC = told refl refl
 -- other way round
 pub record ByOperation (op : Operation) : Type 0 where
   pub leaves : All (Leaf (groupOf op) op) (formsOf op)
-  pub crosses : eitherWay (groupOf op) ≡ true → All (Crosses (groupOf op) op) (formsOf op)
+  pub crosses : All (Crosses (groupOf op) op) (formsOf op)
 
 pub by-operation : (op : Operation) → ByOperation op
 by-operation op =
     let t = in-table op in
     record {
       leaves = subst (λ (l : List Form). All (Leaf (groupOf op) op) l) (sym (t .forms-are)) (leaves (groupOf op) (baseOf op) op);
-      crosses = λ e. subst (λ (l : List Form). All (Crosses (groupOf op) op) l) (sym (t .forms-are))
-          (crosses (groupOf op) (baseOf op) op (sym (t .order-is) ∙ e) e);
+      crosses = subst (λ (l : List Form). All (Crosses (groupOf op) op) l) (sym (t .forms-are)) (crosses (groupOf op) (baseOf op) op (t .order-is));
     }

@@ -51,7 +51,7 @@ module _ (r : ℕ) where
   gives-below n =
       if (eqb n 1) _ _ (is 8 (omega arith)) (if (eqb n 2) _ _ (is 7 (omega arith))
       (if (eqb n 3) _ _ (or (eqb r 2) (eqb r 4) (is 2 (omega arith)) (is 4 (omega arith))) (if (eqb n 4) _ _ (is 3 (omega arith))
-      (if (eqb n 5) _ _ (or (eqb r 1) _ (is 1 (omega arith)) (or (eqb r 4) (eqb r 7) (is 4 (omega arith)) (is 7 (omega arith))))
+      (if (eqb n 5) _ _ (or (eqb r 1) (eqb r 4) (is 1 (omega arith)) (is 4 (omega arith)))
       (if (eqb n 6) _ _ (is 5 (omega arith)) (λ e. is 6 (omega arith) (both-true (eqb n 7) (eqb r 6) e .1)))))))
 
 -- ---- so does an answer; 0 stands for bytes

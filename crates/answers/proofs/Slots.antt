@@ -18,7 +18,7 @@ use Rattle.values.specs.Distances.{distanceOf}
 use Rattle.x86.specs.declared.Operand.{Operand}
 use Rattle.x86.specs.declared.Operand.the-variants as O
 use Rattle.x86.specs.Instructions.{inEffect, defaultSegment}
-use Rattle.x86.specs.Forms.{byte, word, Slot, rm, rm-near, mem, reg, sreg, sreg-not-cs, acc, low3, bits34, bits34-not-cs, CL, DX, one, moffs, xlat, ib, iw, ib-sx, cb, cw, ptr, nil}
+use Rattle.x86.specs.Forms.{byte, word, Slot, rm, rm-near, mem, mem-far, reg, sreg, sreg-not-cs, acc, low3, bits34, bits34-not-cs, CL, DX, one, moffs, xlat, ib, iw, ib-sx, cb, cw, ptr, nil}
 use Rattle.x86.specs.Reading.{mode, digit, low, Place, nowhere, by-modrm, about, onlyOpcode, onlyFits, signExtended, wordAt, rmAt, at}
 use Rattle.x86.specs.Reading as R
 use Rattle.x86.specs.Listing.{Bytes}
@@ -48,6 +48,7 @@ abbrev pub field : Slot → Field
 field (rm w) = in-rm
 field rm-near = in-rm
 field mem = in-rm
+field mem-far = in-rm
 field (reg w) = in-reg
 field sreg = in-reg
 field sreg-not-cs = in-reg
@@ -73,6 +74,7 @@ abbrev pub holds : Slot → OperandData → Operand
 holds (rm w) o = counted w o
 holds rm-near o = counted word o
 holds mem o = counted word o
+holds mem-far o = counted word o
 holds (reg w) o = counted w o
 holds sreg o = counted word o
 holds sreg-not-cs o = counted word o
@@ -117,6 +119,7 @@ pub bounded : (s : Slot) (off : ℕ) (o : OperandData) → Given s off o → Bou
 bounded (rm w) off o g = taken-in-rm o (g .formed) _ (g .taken)
 bounded rm-near off o g = taken-in-rm o (g .formed) _ (g .taken)
 bounded mem off o g = mem-in-rm o (g .formed) (mem-taken (o .kind) true (g .taken) .0)
+bounded mem-far off o g = mem-in-rm o (g .formed) (mem-taken (o .kind) _ (g .taken) .0)
 bounded (reg w) off o g = taken-reg o (g .formed) _ (g .taken)
 bounded sreg off o g = let h = taken-seg o (g .formed) _ (g .taken) in omega arith
 bounded sreg-not-cs off o g = let h = taken-seg o (g .formed) _ (g .taken) in omega arith
@@ -226,6 +229,9 @@ found rm-near off o h g p c x next t u i a = got refl refl (rm-read word o p x t
 found mem off o h g p c x next t u i a =
     let m = mem-mode o (g .formed) (mem-taken (o .kind) true (g .taken) .0) in
     got refl (lt-ltb (x / 64) 3 (omega (arith, i .mode-is))) (rm-read word o p x t (bounded mem off o g) i)
+found mem-far off o h g p c x next t u i a =
+    let m = mem-mode o (g .formed) (mem-taken (o .kind) _ (g .taken) .0) in
+    got refl (lt-ltb (x / 64) 3 (omega (arith, i .mode-is))) (rm-read word o p x t (bounded mem-far off o g) i)
 found (reg w) off o h g p c x next t u i a = got refl refl (reg-read w o _ _ (g .taken) i)
 found sreg off o h g p c x next t u i a =
     got refl (rw i (lt-ltb (o .rm) 4 (taken-seg o (g .formed) true (g .taken)))) (seg-read word o _ _ (g .taken) i)
@@ -304,6 +310,7 @@ pub by-field : (s : Slot) (off : ℕ) (o : OperandData) → ByField s off o
 by-field (rm w) off o = record { part-is = refl; place-is = refl; takes-is = refl; are-bytes = no-byte }
 by-field rm-near off o = record { part-is = refl; place-is = refl; takes-is = refl; are-bytes = no-byte }
 by-field mem off o = record { part-is = refl; place-is = refl; takes-is = refl; are-bytes = no-byte }
+by-field mem-far off o = record { part-is = refl; place-is = refl; takes-is = refl; are-bytes = no-byte }
 by-field (reg w) off o = record { part-is = refl; place-is = refl; takes-is = refl; are-bytes = no-byte }
 by-field sreg off o = record { part-is = refl; place-is = refl; takes-is = refl; are-bytes = no-byte }
 by-field sreg-not-cs off o = record { part-is = refl; place-is = refl; takes-is = refl; are-bytes = no-byte }

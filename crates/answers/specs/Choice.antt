@@ -3,7 +3,7 @@
 use Prim.Native.Nat.{ℕ}
 use mathlib.Core.Bool.{Bool, true, false}
 use mathlib.Core.List.{List, [], _∷_}
-use lib.Dec.{eqb}
+use lib.Dec.{eqb, ltb}
 use lib.IntN.{pos, negsuc}
 use Rattle.mrc_compiler.specs.declared.encoder.OperandData.{OperandData}
 use Rattle.mrc_compiler.specs.declared.encoder.OperandSize.{OperandSize}
@@ -12,18 +12,19 @@ use Rattle.mrc_compiler.specs.Builders.{isDirectAddress}
 use Rattle.mrc_compiler.specs.Choose.{pick, both, isnt, bySize, byJump}
 use Rattle.mrc_compiler.specs.Operations.{sameOperation}
 use Rattle.mrc_compiler.specs.Values.{within}
-use Rattle.x86.specs.Forms.{Slot, rm, rm-near, mem, reg, sreg, sreg-not-cs, acc, low3, bits34, bits34-not-cs, CL, DX, one, moffs, xlat, ib, iw, ib-sx, cb, cw, ptr, nil, Form, forms}
-use Rattle.x86.specs.Reading.{keep}
+use Rattle.x86.specs.Forms.{Slot, rm, rm-near, mem, mem-far, reg, sreg, sreg-not-cs, acc, low3, bits34, bits34-not-cs, CL, DX, one, moffs, xlat, ib, iw, ib-sx, cb, cw, ptr, nil, Form, forms}
+use Rattle.x86.specs.Reading.{keep, about}
 use Rattle.answers.specs.Records.{sameSize, statedOf}
 use Rattle.groups.specs.declared.Group.{Group}
 use Rattle.answers.specs.Operands.{ifImm, ifReg, ifSeg, ifMem, ifRm}
-use Rattle.answers.specs.Rules.{Sizing, unasked, either-states, first-states, first-is-word, Special, ordinary, unordered, without-operands, target-first, not-supported, rule}
+use Rattle.answers.specs.Rules.{Sizing, unasked, either-states, first-states, first-is-word, Special, ordinary, unordered, unordered-memory, by-count, target-first, not-supported, rule}
 
 -- does a slot take the operand o, which counts with the size s?
 abbrev pub takes : Slot → OperandSize → OperandData → Bool
 takes (rm w) s o = ifRm o (sameSize w s)
 takes rm-near s o = ifRm o (both (byJump (o .«jmp_kind») true false true false) (bySize (o .size) true false true))
 takes mem s o = ifMem o true
+takes mem-far s o = ifMem o (both (byJump (o .«jmp_kind») false true false false) (bySize (o .size) true false true))
 takes (reg w) s o = ifReg o (sameSize w s)
 takes sreg s o = ifSeg o true
 takes sreg-not-cs s o = ifSeg o (isnt (eqb (o .rm) 1))
@@ -68,30 +69,33 @@ choose either-way (f ∷ fs) s a t b =
     (pick (both either-way (both (takes (f .first) t b) (takes (f .second) s a))) (crossed f)
     (choose either-way fs s a t b))
 
--- only RET looks at the count: it has the form without operands at 0
-abbrev pub countBy : Special → ℕ → Bool
-countBy ordinary k = true
-countBy unordered k = true
-countBy without-operands k = eqb k 0
-countBy target-first k = true
-countBy not-supported k = true
+-- only RET looks at the count: at 0 it has the form without an operand, else the one with an immediate
+abbrev pub hasImmediate : Form → Bool
+hasImmediate f = ltb 0 (about (f .first) .takes)
 
-abbrev pub countTaken : Group → ℕ → Bool
-countTaken g k = countBy (rule g .special) k
+abbrev pub countBy : Special → ℕ → Form → Bool
+countBy ordinary k f = true
+countBy unordered k f = true
+countBy unordered-memory k f = true
+countBy by-count k f = pick (eqb k 0) (isnt (hasImmediate f)) (hasImmediate f)
+countBy target-first k f = true
+countBy not-supported k f = true
 
-abbrev pub isUnordered : Special → Bool
-isUnordered ordinary = false
-isUnordered unordered = true
-isUnordered without-operands = false
-isUnordered target-first = false
-isUnordered not-supported = false
+-- may a stand in the second slot and b in the first? In XCHG always, in TEST where a is a register and b memory
+abbrev pub eitherBy : Special → OperandData → OperandData → Bool
+eitherBy ordinary a b = false
+eitherBy unordered a b = true
+eitherBy unordered-memory a b = both (ifReg a true) (ifMem b true)
+eitherBy by-count a b = false
+eitherBy target-first a b = false
+eitherBy not-supported a b = false
 
-abbrev pub eitherWay : Group → Bool
-eitherWay g = isUnordered (rule g .special)
+abbrev pub eitherWay : Group → OperandData → OperandData → Bool
+eitherWay g a b = eitherBy (rule g .special) a b
 
 -- the form of a group, out of these, that takes a record with count k and operands a and b
 abbrev pub choice : Group → List Form → ℕ → OperandData → OperandData → Choice
-choice g fs k a b = pick (countTaken g k) (choose (eitherWay g) fs (sizeIn g a b a) a (sizeIn g a b b) b) none
+choice g fs k a b = choose (eitherWay g a b) (keep (countBy (rule g .special) k) fs) (sizeIn g a b a) a (sizeIn g a b b) b
 
 -- the forms of an operation
 unfoldable pub formsOf : Operation → List Form

@@ -8,7 +8,7 @@ use Rattle.mrc_compiler.specs.declared.encoder.OperandData.{OperandData}
 use Rattle.mrc_compiler.specs.Choose.{pick, bySize}
 use Rattle.mrc_compiler.specs.Values.{modZ}
 use Rattle.values.specs.Distances.{distanceOf}
-use Rattle.x86.specs.Forms.{Slot, rm, rm-near, mem, reg, sreg, sreg-not-cs, acc, low3, bits34, bits34-not-cs, CL, DX, one, moffs, xlat, ib, iw, ib-sx, cb, cw, ptr, nil, Extension, Form}
+use Rattle.x86.specs.Forms.{Slot, rm, rm-near, mem, mem-far, reg, sreg, sreg-not-cs, acc, low3, bits34, bits34-not-cs, CL, DX, one, moffs, xlat, ib, iw, ib-sx, cb, cw, ptr, nil, Extension, Form}
 use Rattle.x86.specs.Forms as F
 
 -- a word, low byte first
@@ -59,6 +59,7 @@ abbrev pub part : Slot → ℕ → OperandData → Part
 part (rm w) off o = inRm o
 part rm-near off o = inRm o
 part mem off o = inRm o
+part mem-far off o = inRm o
 part (reg w) off o = inReg (o .rm)
 part sreg off o = inReg (o .rm)
 part sreg-not-cs off o = inReg (o .rm)

@@ -11,7 +11,7 @@ use Rattle.mrc_compiler.specs.declared.encoder.OperandSize.the-variants as S
 use Rattle.mrc_compiler.specs.Choose.{pick}
 use Rattle.mrc_compiler.specs.Values.{within}
 use Rattle.values.specs.Distances.{distanceOf, wrapped}
-use Rattle.x86.specs.Forms.{Slot, rm, rm-near, mem, reg, sreg, sreg-not-cs, acc, low3, bits34, bits34-not-cs, CL, DX, one, moffs, xlat, ib, iw, ib-sx, cb, cw, ptr, nil, Form}
+use Rattle.x86.specs.Forms.{Slot, rm, rm-near, mem, mem-far, reg, sreg, sreg-not-cs, acc, low3, bits34, bits34-not-cs, CL, DX, one, moffs, xlat, ib, iw, ib-sx, cb, cw, ptr, nil, Form}
 use Rattle.x86.specs.Reading.{about, somewhere}
 use Rattle.groups.specs.declared.Group.{Group}
 use Rattle.answers.specs.Rules.{Immediate, number, number-stored, rule}
@@ -26,6 +26,7 @@ pub data Kind : Type 0 where
   sign-extended : Kind  -- under 83
   vector : Kind
   port : Kind
+  popped : Kind  -- of RET
   address : Kind
   target : Kind
   segment : Kind
@@ -46,6 +47,7 @@ limits memory-word = to (negsuc 32767) (pos 65535)
 limits sign-extended = to (pos 0) (pos 255)
 limits vector = to (pos 0) (pos 255)
 limits port = to (pos 0) (pos 255)
+limits popped = to (pos 0) (pos 65535)
 limits address = to (pos 0) (pos 65535)
 limits target = to (pos 0) (pos 65535)
 limits segment = to (pos 0) (pos 65535)
@@ -56,12 +58,14 @@ byteBy number memory = data-byte
 byteBy number-stored memory = pick memory memory-byte data-byte
 byteBy R.vector memory = vector
 byteBy R.port memory = port
+byteBy R.popped memory = popped
 
 abbrev pub wordBy : Immediate → Bool → Kind
 wordBy number memory = data-word
 wordBy number-stored memory = pick memory memory-word data-word
 wordBy R.vector memory = vector
 wordBy R.port memory = port
+wordBy R.popped memory = popped
 
 abbrev pub byteKind : Group → Bool → Kind
 byteKind g memory = byteBy (rule g .immediate) memory
@@ -94,6 +98,7 @@ abbrev pub ofSlot : Group → Slot → Slot → ℕ → OperandData → List Ask
 ofSlot g s (rm w) off o = []
 ofSlot g s rm-near off o = []
 ofSlot g s mem off o = []
+ofSlot g s mem-far off o = []
 ofSlot g s (reg w) off o = []
 ofSlot g s sreg off o = []
 ofSlot g s sreg-not-cs off o = []

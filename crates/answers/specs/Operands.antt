@@ -87,12 +87,17 @@ ofOutput op a b = canonical op (b .size) (port a) (counted (b .size) b)
 abbrev pub ofVector : Operation → OperandData → OperandData → Instruction
 ofVector op a b = canonical op S.Unspecified (O.Immediate (modZ 256 (a .imm))) O.None
 
+-- an immediate word
+abbrev pub ofPopped : Operation → OperandData → OperandData → Instruction
+ofPopped op a b = canonical op S.Unspecified (O.Immediate (modZ 65536 (a .imm))) O.None
+
 abbrev pub ofNear : Operation → OperandData → OperandData → Instruction
 ofNear op a b = canonical op S.Unspecified (nearTarget a) O.None
 
--- where CALL and JMP go: a near or far target, or through a Word register or memory
+-- where CALL and JMP go: a near or far target, or through a Word register or memory, or through memory that holds a far target, which has no width
 abbrev pub ofTransfer : Operation → OperandData → OperandData → Instruction
 ofTransfer op a b =
     let near = ofNear op a b in
     let through = ofOne S.Word op a b in
-    byKind (a .kind) (byJump (a .«jmp_kind») near (canonical op S.Unspecified (farTarget a) O.None) near near) through through through
+    byKind (a .kind) (byJump (a .«jmp_kind») near (canonical op S.Unspecified (farTarget a) O.None) near near) through through
+    (byJump (a .«jmp_kind») through (ofOne S.Unspecified op a b) through through)

@@ -21,7 +21,7 @@ use Rattle.answers.specs.Records.{dst, src}
 use Rattle.answers.specs.WellFormed.{wellFormed}
 use Rattle.groups.specs.declared.Group.{Group}
 use Rattle.groups.specs.Grouping.{groupOf}
-use Rattle.answers.specs.Rules.{Sizing, unasked, either-states, first-states, first-is-word, Special, ordinary, unordered, without-operands, target-first, not-supported, isWord, rule}
+use Rattle.answers.specs.Rules.{Sizing, unasked, either-states, first-states, first-is-word, Special, ordinary, unordered, unordered-memory, by-count, target-first, not-supported, isWord, rule}
 use Rattle.answers.specs.Choice.{Choice, none, straight, crossed, choice, formsOf}
 use Rattle.answers.specs.Limits.{Asked, asked, ofForm, limits, target}
 
@@ -68,7 +68,8 @@ agreeBy first-is-word a b = true
 abbrev pub targetBy : Special → OperandData → Bool
 targetBy ordinary a = true
 targetBy unordered a = true
-targetBy without-operands a = true
+targetBy unordered-memory a = true
+targetBy by-count a = true
 targetBy target-first a = byKind (a .kind) (within (limits target .low) (limits target .high) (a .imm)) true true true
 targetBy not-supported a = true
 
@@ -107,11 +108,12 @@ wellFormedAsked insn =
     ∷ asked 1 (wellFormed (src insn)) (E.NotWellFormed (src insn .span))
     ∷ []
 
--- 2: any operation but INT1, WAIT, ESC
+-- 2: any operation but INT1, ESC
 abbrev pub supportedBy : Special → Bool
 supportedBy ordinary = true
 supportedBy unordered = true
-supportedBy without-operands = true
+supportedBy unordered-memory = true
+supportedBy by-count = true
 supportedBy target-first = true
 supportedBy not-supported = false
 

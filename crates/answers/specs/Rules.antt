@@ -10,11 +10,11 @@ use Rattle.mrc_compiler.specs.declared.encoder.generate.At.the-variants as At
 use Rattle.mrc_compiler.specs.declared.operations.Operation.{Operation}
 use mathlib.Core.Bool.{Bool, true, false}
 use Rattle.mrc_compiler.specs.declared.encoder.OperandSize.{OperandSize}
-use Rattle.mrc_compiler.specs.Choose.{pick, bySize, byKind, byJump}
+use Rattle.mrc_compiler.specs.Choose.{pick, bySize, byJump}
 use Rattle.x86.specs.declared.Instruction.{Instruction}
 use Rattle.groups.specs.declared.Group.{Group}
 use Rattle.groups.specs.declared.Group.the-variants as G
-use Rattle.answers.specs.Operands.{ifImm, ifMem, ifRm, ofNone, ofOne, ofFirst, ofTwo, ofAddress, ofShift, ofInput, ofOutput, ofVector, ofNear, ofTransfer}
+use Rattle.answers.specs.Operands.{ifImm, ifRm, ofNone, ofOne, ofFirst, ofTwo, ofAddress, ofShift, ofInput, ofOutput, ofVector, ofPopped, ofNear, ofTransfer}
 
 -- questions 3 and 4
 pub data Sizing : Type 0 where
@@ -29,6 +29,7 @@ pub data Immediate : Type 0 where
   number-stored : Immediate  -- of MOV: into memory it may be negative
   vector : Immediate
   port : Immediate
+  popped : Immediate  -- of RET: the bytes that it takes off the stack
 
 -- question 5: the refusal of a record without a form
 pub record Refusal : Type 0 where
@@ -42,7 +43,8 @@ refusal w a = record { why = w; at = a }
 pub data Special : Type 0 where
   ordinary : Special
   unordered : Special  -- XCHG: its operands have no first and second
-  without-operands : Special  -- RET: a form at count 0 only
+  unordered-memory : Special  -- TEST: a register and memory have none
+  by-count : Special  -- RET: at count 0 the form without an operand, else the one with
   target-first : Special  -- JMP: its immediate's range is asked before its form
   not-supported : Special  -- question 2
 
@@ -64,44 +66,13 @@ at-operands a b = refusal W.InvalidOperands At.Operands
 abbrev pub at-first : OperandData → OperandData → Refusal
 at-first a b = refusal W.InvalidOperands At.First
 
--- 7 where 000 leaves it open: it reaches todo! there
-abbrev pub open-where : Bool → Refusal → Refusal
-open-where t r = pick t (refusal W.NotSupported At.Operands) r
-
--- TEST of any register or memory with a register, memory or immediate
-abbrev pub test-open : OperandData → OperandData → Bool
-test-open a b = byKind (a .kind) false (byKind (b .kind) true true false true) false (byKind (b .kind) true true false false)
-
-abbrev pub of-test : OperandData → OperandData → Refusal
-of-test a b = open-where (test-open a b) (at-operands a b)
-
--- PUSH and POP of Word memory; POP of an immediate is 4
-abbrev pub stack-open : OperandData → Bool
-stack-open a = ifMem a (isWord (a .size))
-
-abbrev pub of-push : OperandData → OperandData → Refusal
-of-push a b = open-where (stack-open a) (at-first a b)
-
+-- POP of an immediate is 4
 abbrev pub of-pop : OperandData → OperandData → Refusal
-of-pop a b = open-where (stack-open a) (pick (ifImm a true) (refusal W.InvalidOperandSize At.First) (at-operands a b))
+of-pop a b = pick (ifImm a true) (refusal W.InvalidOperandSize At.First) (at-operands a b)
 
--- RET with operands
-abbrev pub of-return : OperandData → OperandData → Refusal
-of-return a b = open-where true (at-operands a b)
-
--- CALL through memory of kind Far
-abbrev pub call-open : OperandData → Bool
-call-open a = ifMem a (byJump (a .«jmp_kind») false true false false)
-
-abbrev pub of-call : OperandData → OperandData → Refusal
-of-call a b = open-where (call-open a) (at-operands a b)
-
--- JMP of kind Short; through a register or memory of kind Far or Short it names the operand
-abbrev pub jump-open : OperandData → Bool
-jump-open a = ifImm a (byJump (a .«jmp_kind») false false false true)
-
+-- JMP through a register or memory of kind Far or Short names the operand
 abbrev pub of-jump : OperandData → OperandData → Refusal
-of-jump a b = open-where (jump-open a) (pick (ifRm a (byJump (a .«jmp_kind») false true false true)) (at-first a b) (at-operands a b))
+of-jump a b = pick (ifRm a (byJump (a .«jmp_kind») false true false true)) (at-first a b) (at-operands a b)
 
 -- ---- the rows
 abbrev pub row-of : Special → Sizing → Immediate → (OperandData → OperandData → Refusal) → (Operation → OperandData → OperandData → Instruction) → Rule
@@ -125,16 +96,16 @@ abbrev pub rule : Group → Rule
 rule G.Arithmetic = row either-states number at-operands ofTwo
 rule G.Unary = row else-2 number at-operands ofFirst
 rule G.Mov = row either-states number-stored at-operands ofTwo
-rule G.Test = row either-states number of-test ofTwo
+rule G.Test = row-of unordered-memory either-states number at-operands ofTwo
 rule G.Xchg = row-of unordered either-states number at-operands ofTwo
 rule G.IncDec = row else-4-first number at-operands ofFirst
-rule G.Push = row unasked number of-push (ofOne S.Word)
+rule G.Push = row unasked number at-first (ofOne S.Word)
 rule G.Pop = row first-is-word number of-pop (ofOne S.Word)
-rule G.Ret = row-of without-operands unasked number of-return ofNone
+rule G.Ret = row-of by-count unasked popped at-operands ofPopped
 rule G.Lea = row unasked number at-operands ofAddress
 rule G.LesLds = row unasked number at-operands ofAddress
 rule G.Shift = row else-2-first number at-operands ofShift
-rule G.Call = row unasked number of-call ofTransfer
+rule G.Call = row unasked number at-operands ofTransfer
 rule G.Jmp = row-of target-first unasked number of-jump ofTransfer
 rule G.Jcc = row unasked number at-first ofNear
 rule G.Loopc = row unasked number at-operands ofNear

@@ -15,7 +15,7 @@ use Rattle.mrc_compiler.specs.declared.encoder.OperandSize.{OperandSize}
 use Rattle.mrc_compiler.specs.declared.encoder.generate.Code.the-variants as C
 use Rattle.mrc_compiler.specs.Choose.{pick}
 use Rattle.values.specs.Distances.{distanceOf}
-use Rattle.x86.specs.Forms.{Slot, rm, rm-near, mem, reg, sreg, sreg-not-cs, acc, low3, bits34, bits34-not-cs, CL, DX, one, moffs, xlat, ib, iw, ib-sx, cb, cw, ptr, nil}
+use Rattle.x86.specs.Forms.{Slot, rm, rm-near, mem, mem-far, reg, sreg, sreg-not-cs, acc, low3, bits34, bits34-not-cs, CL, DX, one, moffs, xlat, ib, iw, ib-sx, cb, cw, ptr, nil}
 use Rattle.x86.specs.Reading.{Place, nowhere, by-modrm, about, somewhere}
 use Rattle.x86.specs.Reading as R
 use Rattle.x86.proofs.Tests.{is-true}
@@ -23,7 +23,7 @@ use Rattle.answers.specs.WellFormed.{wellFormed}
 use Rattle.groups.specs.declared.Group.{Group}
 use Rattle.answers.specs.Choice.{takes}
 use Rattle.answers.specs.Layout.{byteOf, wordOf, part}
-use Rattle.answers.specs.Limits.{Kind, data-byte, data-word, memory-byte, memory-word, sign-extended, vector, port, address, target, segment, limits, byteKind, wordKind, inLimits, shortDistance, ofSlot}
+use Rattle.answers.specs.Limits.{Kind, data-byte, data-word, memory-byte, memory-word, sign-extended, vector, port, popped, address, target, segment, limits, byteKind, wordKind, inLimits, shortDistance, ofSlot}
 use Rattle.answers.specs.Answer.{firstNo, Answer, answered, bytes}
 use Rattle.answers.proofs.Operands.{mem-taken, mem-in-rm, taken-in-rm, taken-reg, taken-seg, taken-mem}
 use Rattle.answers.proofs.Slots.{Field, in-rm, in-reg, in-low3, in-bits34, by-address, by-bx-al, distance, elsewhere, field, placeOf, Bounded}
@@ -68,6 +68,7 @@ width memory-word = 2
 width sign-extended = 1
 width vector = 1
 width port = 1
+width popped = 2
 width address = 0
 width target = 0
 width segment = 0
@@ -103,6 +104,7 @@ module _ (insn : InstructionData) (off k : ℕ) where
   immediate-is sign-extended h = refl
   immediate-is vector h = refl
   immediate-is port h = refl
+  immediate-is popped h = refl
   immediate-is address h = absurd (omega arith)
   immediate-is target h = absurd (omega arith)
   immediate-is segment h = absurd (omega arith)
@@ -138,6 +140,7 @@ module _ (insn : InstructionData) (off k : ℕ) where
     slot-tied (rm w) z t h q = slot-by refl refl refl (taken-in-rm o h _ t)
     slot-tied rm-near z t h q = slot-by refl refl refl (taken-in-rm o h _ t)
     slot-tied mem z t h q = slot-by refl refl refl (mem-in-rm o h (mem-taken (o .kind) true t .0))
+    slot-tied mem-far z t h q = slot-by refl refl refl (mem-in-rm o h (mem-taken (o .kind) _ t .0))
     slot-tied (reg w) z t h q = slot-by refl refl refl (taken-reg o h _ t)
     slot-tied sreg z t h q = slot-by refl refl refl (let l = taken-seg o h _ t in omega arith)
     slot-tied sreg-not-cs z t h q = slot-by refl refl refl (let l = taken-seg o h _ t in omega arith)

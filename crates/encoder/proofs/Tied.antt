@@ -19,14 +19,15 @@ use Rattle.mrc_compiler.specs.declared.operations.Operation.{Operation}
 use Rattle.mrc_compiler.specs.Choose.{pick, both}
 use Rattle.mrc_compiler.specs.Operations.{sameOperation}
 use Rattle.x86.specs.Forms.{Form, forms}
-use Rattle.x86.specs.Reading.{about}
+use Rattle.x86.specs.Reading.{keep, about}
 use Rattle.x86.proofs.Tests.{both-parts, eachOf, each-at, kept}
 use Rattle.x86.proofs.Unambiguous.{digitOk, all-bytes}
 use Rattle.answers.specs.Records.{dst, src}
 use Rattle.answers.specs.WellFormed.{wellFormed}
 use Rattle.groups.specs.declared.Group.{Group}
 use Rattle.groups.specs.Grouping.{groupedOf, groupOf}
-use Rattle.answers.specs.Choice.{Choice, none, straight, crossed, takes, sizeIn, choose, countTaken, eitherWay, formsOf}
+use Rattle.answers.specs.Rules.{rule}
+use Rattle.answers.specs.Choice.{Choice, none, straight, crossed, takes, sizeIn, choose, countBy, eitherWay, formsOf}
 use Rattle.answers.specs.Layout.{Part, part, layout}
 use Rattle.answers.specs.Limits.{Asked, asked, ofSlot, ofForm}
 use Rattle.answers.specs.Questions.{Ask, ask, sizeStated, sizesAgree, targetAsked, formFound, groupAsks, withSpan, isSupported, formAsked, chosen, questions}
@@ -224,22 +225,16 @@ module _ (insn : InstructionData) (off : ℕ) (wa : wellFormed (dst insn) ≡ tr
   same c h =
       refuses insn off (asks c) (formAsked (groupOf op) c off (dst insn) (src insn)) (written c off (dst insn) (src insn)) (choicePlan (groupOf op) c) h
 
-  -- the form chosen, whether or not the count is taken
+  -- the form chosen, out of those at the record's count
   same-chosen : Same (chosen insn)
-  same-chosen = go (countTaken (groupOf op) (insn .«num_opers»))
-    where
-      s : OperandSize
-      s = sizeIn (groupOf op) (dst insn) (src insn) (dst insn)
-
-      t : OperandSize
-      t = sizeIn (groupOf op) (dst insn) (src insn) (src insn)
-
-      go : (k : Bool) → Same (pick k (choose (eitherWay (groupOf op)) (formsOf op) s (dst insn) t (src insn)) none)
-      go true =
-          choose-has Same (eitherWay (groupOf op)) s (dst insn) t (src insn) same-none (formsOf op)
-          (λ f m x y. same (straight f) (of-operation 0 1 refl refl wa wb f m s t x y))
-          (λ f m x y. same (crossed f) (of-operation 1 0 refl refl wb wa f m t s x y))
-      go false = same-none
+  same-chosen =
+      let g = groupOf op in
+      let q = countBy (rule g .special) (insn .«num_opers») in
+      let s = sizeIn g (dst insn) (src insn) (dst insn) in
+      let t = sizeIn g (dst insn) (src insn) (src insn) in
+      choose-has Same (eitherWay g (dst insn) (src insn)) s (dst insn) t (src insn) same-none (keep q (formsOf op))
+      (λ f m x y. same (straight f) (of-operation 0 1 refl refl wa wb f (kept q (formsOf op) m) s t x y))
+      (λ f m x y. same (crossed f) (of-operation 1 0 refl refl wb wa f (kept q (formsOf op) m) t s x y))
 
 -- a question of the code in front of others: behind it the two need only agree where it gets yes
 asked-where : (n : ℕ) (t : Bool) (e : EncodeError) (qs : List Asked) (bs : List ℕ) (x : Answer) → (t ≡ true → x ≡ answered (firstNo qs) bs)

@@ -4,7 +4,7 @@ use Prim.Native.Nat.{ℕ}
 use Rattle.mrc_compiler.specs.declared.encoder.OperandSize.{OperandSize}
 use Rattle.mrc_compiler.specs.declared.encoder.OperandSize.the-variants as S
 use Rattle.forms.specs.declared.Slot.{Slot}
-use Rattle.forms.specs.declared.Slot.the-variants.{Rm as rm, RmNear as rm-near, Mem as mem, Reg as reg, Sreg as sreg, SregNotCs as sreg-not-cs, Acc as acc, Low3 as low3, Bits34 as bits34, Bits34NotCs as bits34-not-cs, Cl as CL, Dx as DX, One as one, Moffs as moffs, Xlat as xlat, Ib as ib, Iw as iw, IbSx as ib-sx, Cb as cb, Cw as cw, Ptr as ptr, Nil as nil}
+use Rattle.forms.specs.declared.Slot.the-variants.{Rm as rm, RmNear as rm-near, Mem as mem, MemFar as mem-far, Reg as reg, Sreg as sreg, SregNotCs as sreg-not-cs, Acc as acc, Low3 as low3, Bits34 as bits34, Bits34NotCs as bits34-not-cs, Cl as CL, Dx as DX, One as one, Moffs as moffs, Xlat as xlat, Ib as ib, Iw as iw, IbSx as ib-sx, Cb as cb, Cw as cw, Ptr as ptr, Nil as nil}
 use Rattle.forms.specs.declared.Place.{Place}
 use Rattle.forms.specs.declared.Place.the-variants.{Nowhere as nowhere, ByModRm as by-modrm, ByAddress as by-address, ByBxAl as by-bx-al}
 use Rattle.forms.specs.declared.Only.{Only}
@@ -19,6 +19,7 @@ abbrev pub about : Slot → About
 about (rm w) = is w by-modrm 0 any
 about rm-near = is S.Word by-modrm 0 any
 about mem = is S.Unspecified by-modrm 0 memory-only
+about mem-far = is S.Unspecified by-modrm 0 memory-only
 about (reg w) = is w nowhere 0 any
 about sreg = is S.Word nowhere 0 to3
 about sreg-not-cs = is S.Word nowhere 0 to3-not-cs

@@ -14,6 +14,9 @@ pub enum Slot {
     // The r/m field, memory only.
     Mem,
 
+    // The same, memory that holds a far target (m16:16).
+    MemFar,
+
     // The reg field of ModRM.
     Reg(OperandSize),
 
@@ -165,6 +168,12 @@ impl Slot {
                 only: Only::Any,
             },
             Slot::Mem => About {
+                width: OperandSize::Unspecified,
+                place: Place::ByModRm,
+                takes: 0,
+                only: Only::MemoryOnly,
+            },
+            Slot::MemFar => About {
                 width: OperandSize::Unspecified,
                 place: Place::ByModRm,
                 takes: 0,

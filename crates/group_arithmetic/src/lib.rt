@@ -110,34 +110,31 @@ pub fn encode_group_not_neg_mul_imul_div_idiv(dst: OperandData, src: OperandData
     }
 }
 
-// AL with an immediate; 000 leaves the other forms open.
-fn test_form(dst: OperandKind, src: OperandKind, al: bool) -> Line
-    ensures { λ r. ⌜ r ≡ testForm dst src al ⌝ }
+// acc: the first is AL or AX.
+fn test_form(dst: OperandKind, src: OperandKind, acc: bool) -> Line
+    ensures { λ r. ⌜ r ≡ testForm dst src acc ⌝ }
 {
     match dst {
         OperandKind::Imm => Line::InvalidOperands,
         OperandKind::Reg => match src {
-            OperandKind::Imm => { if al { Line::TestAccImm } else { Line::LeftOpen } },
-            OperandKind::Reg => Line::LeftOpen,
+            OperandKind::Imm => {
+                if acc {
+                    Line::TestAccImm
+                } else {
+                    Line::TestRmImm
+                }
+            },
+            OperandKind::Reg => Line::TestRmReg,
             OperandKind::Seg => Line::InvalidOperands,
-            OperandKind::Mem => Line::LeftOpen,
+            OperandKind::Mem => Line::TestRegRm,
         },
         OperandKind::Seg => Line::InvalidOperands,
         OperandKind::Mem => match src {
-            OperandKind::Imm => Line::LeftOpen,
-            OperandKind::Reg => Line::LeftOpen,
+            OperandKind::Imm => Line::TestRmImm,
+            OperandKind::Reg => Line::TestRmReg,
             OperandKind::Seg => Line::InvalidOperands,
             OperandKind::Mem => Line::InvalidOperands,
         },
-    }
-}
-
-fn is_al(size: DataSize, rm: u8) -> bool
-    ensures { λ r. ⌜ r ≡ byData size (eqb rm 0) false ⌝ }
-{
-    match size {
-        DataSize::Byte => rm == 0,
-        DataSize::Word => false,
     }
 }
 
@@ -150,8 +147,8 @@ pub fn encode_group_test(dst: OperandData, src: OperandData) -> Decision
     let src_kind = src.kind;
     match plans::common_operand_size(dst_size, src_size) {
         Common::Is(size) => {
-            let al = is_al(size, dst.rm);
-            let line = test_form(dst_kind, src_kind, al);
+            let acc = plans::is_zero(dst.rm);
+            let line = test_form(dst_kind, src_kind, acc);
             Decision { line, size }
         },
         Common::NotSpecified => lines::plain(Line::SizeNotSpecified),

@@ -2,7 +2,7 @@
 ghost use mathlib.Core.Path.{_≡_};
 ghost use Prim.Native.Nat.{zero};
 ghost use Rattle.groups.specs.declared.Group.the-variants as G;
-ghost use Rattle.plans.specs.Decisions.{throughForm, callForm, jmpForm, shortForm, intForm, decisionIn};
+ghost use Rattle.plans.specs.Decisions.{retForm, throughForm, farForm, callForm, jmpForm, shortForm, intForm, decisionIn};
 use lines::Decision;
 use lines::Line;
 use mrc_compiler::encoder;
@@ -11,13 +11,26 @@ use mrc_compiler::encoder::OperandData;
 use mrc_compiler::encoder::OperandKind;
 use mrc_compiler::encoder::OperandSize;
 
+// With an operand, which is an immediate.
+fn ret_form(kind: OperandKind) -> Line
+    ensures { λ r. ⌜ r ≡ retForm kind ⌝ }
+{
+    match kind {
+        OperandKind::Imm => Line::RetImm,
+        OperandKind::Reg => Line::InvalidOperands,
+        OperandKind::Seg => Line::InvalidOperands,
+        OperandKind::Mem => Line::InvalidOperands,
+    }
+}
+
 pub fn encode_group_ret_retn_retf(num_opers: u8, dst: OperandData, src: OperandData) -> Decision
     ensures { λ r. ⌜ r ≡ decisionIn G.Ret «num_opers» dst src ⌝ }
 {
     if plans::is_zero(num_opers) {
         lines::plain(Line::Ret)
     } else {
-        lines::plain(Line::LeftOpen)
+        let kind = dst.kind;
+        lines::plain(ret_form(kind))
     }
 }
 
@@ -47,6 +60,17 @@ fn through_form(
     }
 }
 
+// Through memory that holds a far target, no Byte.
+fn far_form(size: OperandSize) -> Line
+    ensures { λ r. ⌜ r ≡ farForm size ⌝ }
+{
+    match size {
+        OperandSize::Unspecified => Line::CallMemFar,
+        OperandSize::Byte => Line::InvalidOperands,
+        OperandSize::Word => Line::CallMemFar,
+    }
+}
+
 fn call_form(kind: OperandKind, jmp_kind: JumpKind, size: OperandSize) -> Line
     ensures { λ r. ⌜ r ≡ callForm kind «jmp_kind» size ⌝ }
 {
@@ -69,7 +93,7 @@ fn call_form(kind: OperandKind, jmp_kind: JumpKind, size: OperandSize) -> Line
             Line::CallRm,
             jmp_kind,
             size,
-            Line::LeftOpen,
+            far_form(size),
             Line::InvalidOperands,
         ),
     }
@@ -95,7 +119,7 @@ fn jmp_form(kind: OperandKind, jmp_kind: JumpKind, size: OperandSize, word: bool
                     JumpKind::None => Line::JmpRel,
                     JumpKind::Far => Line::JmpPtr,
                     JumpKind::Near => Line::JmpRel,
-                    JumpKind::Short => Line::LeftOpen,
+                    JumpKind::Short => Line::JmpShort,
                 }
             } else {
                 Line::TargetOutOfRange

@@ -178,7 +178,7 @@ fn push_form(kind: OperandKind, word: bool) -> Line
         OperandKind::Seg => Line::PushSreg,
         OperandKind::Mem => {
             if word {
-                Line::LeftOpen
+                Line::PushRm
             } else {
                 Line::InvalidFirst
             }
@@ -209,7 +209,7 @@ fn pop_form(kind: OperandKind, word: bool, cs: bool) -> Line
                     Line::PopSreg
                 }
             },
-            OperandKind::Mem => Line::LeftOpen,
+            OperandKind::Mem => Line::PopRm,
         }
     } else {
         Line::InvalidSize

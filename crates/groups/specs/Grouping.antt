@@ -105,7 +105,7 @@ groupedOf Op.XLATB = record { group = Gr.Xlat; base = 0x00 }
 groupedOf Op.IN = record { group = Gr.In; base = 0x00 }
 groupedOf Op.OUT = record { group = Gr.Out; base = 0x00 }
 groupedOf Op.INT1 = record { group = Gr.Unsupported; base = 0x00 }
-groupedOf Op.WAIT = record { group = Gr.Unsupported; base = 0x00 }
+groupedOf Op.WAIT = record { group = Gr.NoOperands; base = 0x9B }
 groupedOf Op.ESC = record { group = Gr.Unsupported; base = 0x00 }
 
 abbrev pub groupOf : Operation → Group

@@ -38,7 +38,7 @@ pub enum Group {
     In,
     Out,
 
-    // INT1 WAIT ESC: the `op => todo!` of 000.
+    // INT1 ESC: of the `op => todo!` of 000.
     Unsupported,
 }
 
@@ -442,8 +442,8 @@ pub fn group_of(operation: Operation) -> Grouped
             base: 0x00,
         },
         Operation::WAIT => Grouped {
-            group: Group::Unsupported,
-            base: 0x00,
+            group: Group::NoOperands,
+            base: 0x9B,
         },
         Operation::ESC => Grouped {
             group: Group::Unsupported,

@@ -44,11 +44,18 @@ pub enum Line {
     XchgRegRm,
     XchgRmReg,
 
+    // TEST: of two registers the second in reg; memory first and second; accumulator; F6 and F7.
+    TestRmReg,
+    TestRegRm,
     TestAccImm,
+    TestRmImm,
+
     PushReg,
     PushSreg,
+    PushRm,
     PopReg,
     PopSreg,
+    PopRm,
 
     // LEA LES LDS.
     LoadRegMem,
@@ -59,8 +66,10 @@ pub enum Line {
 
     CallRel,
     CallRm,
+    CallMemFar,
     JmpRel,
     JmpPtr,
+    JmpShort,
     JmpRm,
 
     // Jcc, LOOPNZ LOOPZ LOOP JCXZ.
@@ -74,6 +83,7 @@ pub enum Line {
     Aam,
     Aad,
     Ret,
+    RetImm,
 
     // The other single bytes.
     Single,
@@ -91,7 +101,7 @@ pub enum Line {
     // 5: the immediate of JMP is no word.
     TargetOutOfRange,
 
-    // 7: 000 reaches todo!.
+    // 7: INT1 and ESC, where 000 reaches todo!.
     LeftOpen,
 }
 
@@ -214,18 +224,25 @@ fn line_plan(line: Line, w: u8, imm: Code, stored: Code, base: u8) -> Plan
         Line::XchgRegAcc => one(Code::RegByte(FIRST_OPER_DST, 0x90)),
         Line::XchgRegRm => one(Code::ModRegRM(FIRST_OPER_SRC, 0x86 + w)),
         Line::XchgRmReg => one(Code::ModRegRM(FIRST_OPER_DST, 0x86 + w)),
+        Line::TestRmReg => one(Code::ModRegRM(FIRST_OPER_DST, 0x84 + w)),
+        Line::TestRegRm => one(Code::ModRegRM(FIRST_OPER_SRC, 0x84 + w)),
         Line::TestAccImm => two(Code::Byte(0xA8 + w), imm),
+        Line::TestRmImm => two(Code::ModRM(FIRST_OPER_DST, 0xF6 + w, 0), imm),
         Line::PushReg => one(Code::RegByte(FIRST_OPER_DST, 0x50)),
         Line::PushSreg => one(Code::SegByte(FIRST_OPER_DST, 0x06)),
+        Line::PushRm => one(Code::ModRM(FIRST_OPER_DST, 0xFF, 6)),
         Line::PopReg => one(Code::RegByte(FIRST_OPER_DST, 0x58)),
         Line::PopSreg => one(Code::SegByte(FIRST_OPER_DST, 0x07)),
+        Line::PopRm => one(Code::ModRM(FIRST_OPER_DST, 0x8F, 0)),
         Line::LoadRegMem => one(Code::ModRegRM(FIRST_OPER_SRC, base)),
         Line::ShiftRmOne => one(Code::ModRM(FIRST_OPER_DST, 0xD0 + w, base)),
         Line::ShiftRmCl => one(Code::ModRM(FIRST_OPER_DST, 0xD2 + w, base)),
         Line::CallRel => two(Code::Byte(0xE8), Code::RelWord(FIRST_OPER_DST)),
         Line::CallRm => one(Code::ModRM(FIRST_OPER_DST, 0xFF, 2)),
+        Line::CallMemFar => one(Code::ModRM(FIRST_OPER_DST, 0xFF, 3)),
         Line::JmpRel => two(Code::Byte(0xE9), Code::RelWord(FIRST_OPER_DST)),
         Line::JmpPtr => two(Code::Byte(0xEA), Code::FarWords(FIRST_OPER_DST)),
+        Line::JmpShort => two(Code::Byte(0xEB), Code::RelByte(FIRST_OPER_DST, 2)),
         Line::JmpRm => one(Code::ModRM(FIRST_OPER_DST, 0xFF, 4)),
         Line::ShortRel => two(Code::Byte(base), Code::RelByte(FIRST_OPER_DST, 2)),
         Line::IntImm => two(Code::Byte(0xCD), Code::ImmByte(FIRST_OPER_DST)),
@@ -237,6 +254,7 @@ fn line_plan(line: Line, w: u8, imm: Code, stored: Code, base: u8) -> Plan
         Line::Aam => two(Code::Byte(0xD4), Code::Byte(0x0A)),
         Line::Aad => two(Code::Byte(0xD5), Code::Byte(0x0A)),
         Line::Ret => one(Code::Byte(0xC3)),
+        Line::RetImm => two(Code::Byte(0xC2), Code::ImmWord(FIRST_OPER_DST)),
         Line::Single => one(Code::Byte(base)),
         Line::InvalidOperands => Plan::Refused(Why::InvalidOperands, At::Operands),
         Line::InvalidFirst => Plan::Refused(Why::InvalidOperands, At::First),

@@ -7,7 +7,7 @@ use mathlib.Core.List.{[], _∷_}
 use lib.Dec.{T, eqb, eqb→eq}
 use lib.ListN.{getD}
 use Rattle.mrc_compiler.specs.Choose.{pick, both}
-use Rattle.x86.specs.Forms.{Slot, rm, rm-near, mem, reg, sreg, sreg-not-cs, acc, low3, bits34, bits34-not-cs, CL, DX, one, moffs, xlat, ib, iw, ib-sx, cb, cw, ptr, nil, Extension, Form}
+use Rattle.x86.specs.Forms.{Slot, rm, rm-near, mem, mem-far, reg, sreg, sreg-not-cs, acc, low3, bits34, bits34-not-cs, CL, DX, one, moffs, xlat, ib, iw, ib-sx, cb, cw, ptr, nil, Extension, Form}
 use Rattle.x86.specs.Forms as F
 use Rattle.x86.proofs.Tests.{both-parts}
 use Rattle.listing.specs.declared.Second.{Second}
@@ -29,6 +29,7 @@ abbrev pub tailIn : Slot → Tail
 tailIn (rm w) = L.None
 tailIn rm-near = L.None
 tailIn mem = L.None
+tailIn mem-far = L.None
 tailIn (reg w) = L.None
 tailIn sreg = L.None
 tailIn sreg-not-cs = L.None

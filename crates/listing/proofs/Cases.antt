@@ -13,7 +13,7 @@ use Rattle.mrc_compiler.specs.declared.encoder.OperandSize.the-variants as S
 use Rattle.mrc_compiler.specs.declared.operations.Operation.{Operation}
 use Rattle.mrc_compiler.specs.declared.operations.Operation.the-variants as Op
 use Rattle.mrc_compiler.specs.Operations.{numberOf}
-use Rattle.mrc_compiler.specs.Builders.{immediateOperand, registerOperand, indirectOperand, twoOperands}
+use Rattle.mrc_compiler.specs.Builders.{immediateOperand, registerOperand, indirectOperand, noOperands, oneOperand, twoOperands}
 use Rattle.x86.specs.Forms.{forms}
 use Rattle.x86.specs.Instructions.{canonical}
 use Rattle.x86.specs.Reading.{startingWith, readForm, prefix, reads}
@@ -21,7 +21,7 @@ use Rattle.answers.specs.Operands.{counted}
 use Rattle.answers.specs.Meaning.{meant, meaning}
 use Rattle.groups.specs.Grouping.{groupedOf}
 use Rattle.listing.specs.Operands.{sameOperand, sameInstruction}
-use Rattle.listing.specs.Starts.{arithmeticImmediate, arithmetic, exchange, single, startIn, startOf}
+use Rattle.listing.specs.Starts.{arithmeticImmediate, arithmetic, exchange, testImmediate, test, stack, ret, jump, single, startIn, startOf}
 use Rattle.listing.specs.Candidates.{stringOf, candidate}
 use Rattle.listing.specs.Entries.{entry, spelled, key, isWhole, readsAs, insertBy, among, listing}
 
@@ -30,6 +30,9 @@ span = record { start = 1; end = 9 }
 
 abbrev listed : ℕ → Operation → OperandData → OperandData → List (List ℕ)
 listed off op a b = listing off (meaning (twoOperands span op a b))
+
+abbrev listedOne : ℕ → Operation → OperandData → List (List ℕ)
+listedOne off op a = listing off (meaning (oneOperand span op a))
 
 pub record Rows (off : ℕ) : Type 0 where
   -- P
@@ -56,7 +59,40 @@ pub record Rows (off : ℕ) : Type 0 where
   pub xchg-ax-ax : listed off Op.XCHG (registerOperand span 0 S.Word) (registerOperand span 0 S.Word) ≡ (0x90 ∷ []) ∷ (0x87 ∷ 0xC0 ∷ []) ∷ []
   -- 200 is not a byte that 83 extends
   pub add-bx-200 : listed off Op.ADD (registerOperand span 3 S.Word) (immediateOperand span (pos 200)) ≡ (0x81 ∷ 0xC3 ∷ 0xC8 ∷ 0x00 ∷ []) ∷ []
+  -- No. 1
+  pub test-ax-bx : listed off Op.TEST (registerOperand span 0 S.Word) (registerOperand span 3 S.Word) ≡ (0x85 ∷ 0xD8 ∷ []) ∷ []
+  pub test-bx-ax : listed off Op.TEST (registerOperand span 3 S.Word) (registerOperand span 0 S.Word) ≡ (0x85 ∷ 0xC3 ∷ []) ∷ []
+  pub test-al-5 : listed off Op.TEST (registerOperand span 0 S.Byte) (immediateOperand span (pos 5)) ≡ (0xA8 ∷ 0x05 ∷ []) ∷ (0xF6 ∷ 0xC0 ∷ 0x05 ∷ []) ∷ []
+  pub push-ax : listedOne off Op.PUSH (registerOperand span 0 S.Word) ≡ (0x50 ∷ []) ∷ (0xFF ∷ 0xF0 ∷ []) ∷ []
+  pub pop-ax : listedOne off Op.POP (registerOperand span 0 S.Word) ≡ (0x58 ∷ []) ∷ (0x8F ∷ 0xC0 ∷ []) ∷ []
+  pub ret-4 : listedOne off Op.RET (immediateOperand span (pos 4)) ≡ (0xC2 ∷ 0x04 ∷ 0x00 ∷ []) ∷ []
+  pub ret : listing off (meaning (noOperands span Op.RET)) ≡ (0xC3 ∷ []) ∷ []
+  pub wait : listing off (meaning (noOperands span Op.WAIT)) ≡ (0x9B ∷ []) ∷ []
+  pub jmp-65534-0 : listedOne 65534 Op.JMP (immediateOperand span (pos 0)) ≡ (0xEB ∷ 0x00 ∷ []) ∷ (0xE9 ∷ 0xFF ∷ 0xFF ∷ []) ∷ []
+  pub jmp-0-5 : listedOne 0 Op.JMP (immediateOperand span (pos 5)) ≡ (0xEB ∷ 0x03 ∷ []) ∷ (0xE9 ∷ 0x02 ∷ 0x00 ∷ []) ∷ []
+  pub jmp-0-200 : listedOne 0 Op.JMP (immediateOperand span (pos 200)) ≡ (0xE9 ∷ 0xC5 ∷ 0x00 ∷ []) ∷ []
+  -- TEST of memory and a register, in either order
+  pub test-memory : listed off Op.TEST (indirectOperand span 7 (pos 0) OD.None OG.None) (registerOperand span 1 S.Byte)
+      ≡ listed off Op.TEST (registerOperand span 1 S.Byte) (indirectOperand span 7 (pos 0) OD.None OG.None)
 
 pub rows : (off : ℕ) → Rows off
-unfolding forms canonical startingWith readForm prefix reads counted meant groupedOf sameOperand sameInstruction arithmeticImmediate arithmetic exchange single startIn startOf stringOf candidate entry spelled key isWhole readsAs insertBy among numberOf
-rows off = record { add-ax-5 = refl; add-word-bx-5 = refl; xchg-cx-cx = refl; xchg-ax-ax = refl; add-bx-200 = refl }
+unfolding forms canonical startingWith readForm prefix reads counted meant groupedOf sameOperand sameInstruction arithmeticImmediate arithmetic exchange testImmediate test stack ret jump single startIn startOf stringOf candidate entry spelled key isWhole readsAs insertBy among numberOf
+rows off = record {
+  add-ax-5 = refl;
+  add-word-bx-5 = refl;
+  xchg-cx-cx = refl;
+  xchg-ax-ax = refl;
+  add-bx-200 = refl;
+  test-ax-bx = refl;
+  test-bx-ax = refl;
+  test-al-5 = refl;
+  push-ax = refl;
+  pop-ax = refl;
+  ret-4 = refl;
+  ret = refl;
+  wait = refl;
+  jmp-65534-0 = refl;
+  jmp-0-5 = refl;
+  jmp-0-200 = refl;
+  test-memory = refl;
+}

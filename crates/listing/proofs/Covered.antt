@@ -17,7 +17,7 @@ use Rattle.x86.specs.Reading.{some, startingWith, fitting, hasSecond, instructi
 use Rattle.x86.proofs.Tests.{upTo, upTo-at, eachOf, each-at}
 use Rattle.groups.specs.Grouping.{groupedOf}
 use Rattle.listing.specs.declared.Start.{Start}
-use Rattle.listing.specs.Starts.{arithmeticImmediate, arithmetic, unary, incDec, moveImmediate, moveFrom, moveInto, move, exchange, stack, load, shift, call, jump, single, port, startIn, startOf}
+use Rattle.listing.specs.Starts.{arithmeticImmediate, arithmetic, unary, incDec, moveImmediate, moveFrom, moveInto, move, exchange, testImmediate, test, stack, ret, load, shift, call, jump, single, port, startIn, startOf}
 use Rattle.listing.proofs.ByForm.{startBy, sameStart}
 
 -- s is one of the six starts
@@ -45,35 +45,35 @@ module _ (off p : ℕ) (t : List ℕ) where
   part n = upTo 32 (λ c. covered (c + n))
 
   covered-0 : T (part 0)
-  unfolding startingWith forms canonical numberOf groupedOf arithmeticImmediate arithmetic unary incDec moveImmediate moveFrom moveInto move exchange stack load shift call jump single port startIn startOf
+  unfolding startingWith forms canonical numberOf groupedOf arithmeticImmediate arithmetic unary incDec moveImmediate moveFrom moveInto move exchange testImmediate test stack ret load shift call jump single port startIn startOf
   covered-0 = tt
 
   covered-32 : T (part 32)
-  unfolding startingWith forms canonical numberOf groupedOf arithmeticImmediate arithmetic unary incDec moveImmediate moveFrom moveInto move exchange stack load shift call jump single port startIn startOf
+  unfolding startingWith forms canonical numberOf groupedOf arithmeticImmediate arithmetic unary incDec moveImmediate moveFrom moveInto move exchange testImmediate test stack ret load shift call jump single port startIn startOf
   covered-32 = tt
 
   covered-64 : T (part 64)
-  unfolding startingWith forms canonical numberOf groupedOf arithmeticImmediate arithmetic unary incDec moveImmediate moveFrom moveInto move exchange stack load shift call jump single port startIn startOf
+  unfolding startingWith forms canonical numberOf groupedOf arithmeticImmediate arithmetic unary incDec moveImmediate moveFrom moveInto move exchange testImmediate test stack ret load shift call jump single port startIn startOf
   covered-64 = tt
 
   covered-96 : T (part 96)
-  unfolding startingWith forms canonical numberOf groupedOf arithmeticImmediate arithmetic unary incDec moveImmediate moveFrom moveInto move exchange stack load shift call jump single port startIn startOf
+  unfolding startingWith forms canonical numberOf groupedOf arithmeticImmediate arithmetic unary incDec moveImmediate moveFrom moveInto move exchange testImmediate test stack ret load shift call jump single port startIn startOf
   covered-96 = tt
 
   covered-128 : T (part 128)
-  unfolding startingWith forms canonical numberOf groupedOf arithmeticImmediate arithmetic unary incDec moveImmediate moveFrom moveInto move exchange stack load shift call jump single port startIn startOf
+  unfolding startingWith forms canonical numberOf groupedOf arithmeticImmediate arithmetic unary incDec moveImmediate moveFrom moveInto move exchange testImmediate test stack ret load shift call jump single port startIn startOf
   covered-128 = tt
 
   covered-160 : T (part 160)
-  unfolding startingWith forms canonical numberOf groupedOf arithmeticImmediate arithmetic unary incDec moveImmediate moveFrom moveInto move exchange stack load shift call jump single port startIn startOf
+  unfolding startingWith forms canonical numberOf groupedOf arithmeticImmediate arithmetic unary incDec moveImmediate moveFrom moveInto move exchange testImmediate test stack ret load shift call jump single port startIn startOf
   covered-160 = tt
 
   covered-192 : T (part 192)
-  unfolding startingWith forms canonical numberOf groupedOf arithmeticImmediate arithmetic unary incDec moveImmediate moveFrom moveInto move exchange stack load shift call jump single port startIn startOf
+  unfolding startingWith forms canonical numberOf groupedOf arithmeticImmediate arithmetic unary incDec moveImmediate moveFrom moveInto move exchange testImmediate test stack ret load shift call jump single port startIn startOf
   covered-192 = tt
 
   covered-224 : T (part 224)
-  unfolding startingWith forms canonical numberOf groupedOf arithmeticImmediate arithmetic unary incDec moveImmediate moveFrom moveInto move exchange stack load shift call jump single port startIn startOf
+  unfolding startingWith forms canonical numberOf groupedOf arithmeticImmediate arithmetic unary incDec moveImmediate moveFrom moveInto move exchange testImmediate test stack ret load shift call jump single port startIn startOf
   covered-224 = tt
 
   step : (n c : ℕ) → T (part n) → (c < n → T (covered c)) → c < n + 32 → T (covered c)

@@ -22,7 +22,7 @@ use Rattle.listing.specs.declared.Tail.the-variants as L
 use Rattle.listing.specs.declared.Start.{Start}
 use Rattle.x86.specs.Operands.{aRegister, aSegment, inMemory, anImmediate, aNear, aFar, outlineOf}
 use Rattle.listing.specs.Operands.{prefixOf, displacementOf, valueOf, farSegmentOf}
-use Rattle.listing.specs.Starts.{bare, sized, immediate, plus, withRm, arithmeticImmediate, arithmetic, unary, incDec, moveImmediate, moveFrom, moveInto, move, exchange, stack, load, shift, call, jump, single, port, startIn, startOf}
+use Rattle.listing.specs.Starts.{bare, sized, immediate, plus, withRm, arithmeticImmediate, arithmetic, unary, incDec, moveImmediate, moveFrom, moveInto, move, exchange, testImmediate, test, stack, ret, load, shift, call, jump, single, port, startIn, startOf}
 use Rattle.listing.specs.Candidates.{displacementBytes, secondBytes, tailBytes, stringOf, candidate}
 use Rattle.listing.proofs.Choices.{picked}
 
@@ -62,24 +62,26 @@ module _ (n : ℕ) (w : OperandSize) (a b : Outline) (way k : ℕ) where
       (picked Few (both (eqb (a .kind) aRegister) (eqb k 0)) (omega (arith, immediate-most w)) (omega (arith, immediate-most w))) (lit≤ tt)
 
   in-group : (g : Group) → most (startIn g n w a b way k) ≤ 5
-  unfolding startIn arithmetic unary incDec moveImmediate moveFrom moveInto move exchange stack load shift call jump single port
+  unfolding startIn arithmetic unary incDec moveImmediate moveFrom moveInto move exchange testImmediate test stack ret load shift call jump single port
   in-group Gr.Arithmetic = picked Few (eqb (b .kind) anImmediate) arithmetic-immediate (picked Few (eqb way 0) (lit≤ tt) (lit≤ tt))
   in-group Gr.Unary = lit≤ tt
   in-group Gr.Mov =
       picked Few (eqb (b .kind) anImmediate) (picked Few (eqb way 0) (omega (arith, immediate-most w)) (omega (arith, immediate-most w)))
       (picked Few (eqb (b .kind) aSegment) (lit≤ tt) (picked Few (eqb (a .kind) aSegment) (lit≤ tt) (picked Few (eqb (b .kind) inMemory)
       (picked Few (eqb way 0) (lit≤ tt) (lit≤ tt)) (picked Few (eqb way 0) (lit≤ tt) (picked Few (eqb (a .kind) inMemory) (lit≤ tt) (lit≤ tt))))))
-  in-group Gr.Test = lit≤ tt
+  in-group Gr.Test =
+      picked Few (eqb (b .kind) anImmediate) (picked Few (eqb way 0) (omega (arith, immediate-most w)) (omega (arith, immediate-most w)))
+      (picked Few (eqb (b .kind) inMemory) (lit≤ tt) (lit≤ tt))
   in-group Gr.Xchg = picked Few (eqb way 0) (picked Few (both (eqb (b .kind) aRegister) (eqb k 0)) (lit≤ tt) (lit≤ tt)) (lit≤ tt)
   in-group Gr.IncDec = picked Few (eqb way 0) (lit≤ tt) (lit≤ tt)
-  in-group Gr.Push = lit≤ tt
-  in-group Gr.Pop = lit≤ tt
-  in-group Gr.Ret = lit≤ tt
+  in-group Gr.Push = picked Few (eqb way 0) (lit≤ tt) (lit≤ tt)
+  in-group Gr.Pop = picked Few (eqb way 0) (lit≤ tt) (lit≤ tt)
+  in-group Gr.Ret = picked Few (eqb (a .kind) anImmediate) (lit≤ tt) (lit≤ tt)
   in-group Gr.Lea = lit≤ tt
   in-group Gr.LesLds = lit≤ tt
   in-group Gr.Shift = lit≤ tt
   in-group Gr.Call = picked Few (eqb (a .kind) aNear) (lit≤ tt) (lit≤ tt)
-  in-group Gr.Jmp = picked Few (eqb (a .kind) aNear) (lit≤ tt) (picked Few (eqb (a .kind) aFar) (lit≤ tt) (lit≤ tt))
+  in-group Gr.Jmp = picked Few (eqb (a .kind) aNear) (picked Few (eqb way 0) (lit≤ tt) (lit≤ tt)) (picked Few (eqb (a .kind) aFar) (lit≤ tt) (lit≤ tt))
   in-group Gr.Jcc = lit≤ tt
   in-group Gr.Loopc = lit≤ tt
   in-group Gr.NoOperands = picked Few (eqb way 0) (lit≤ tt) (lit≤ tt)

@@ -14,7 +14,7 @@ use Rattle.mrc_compiler.specs.Operations.{sameOperation}
 use Rattle.x86.specs.declared.Operand.{Operand}
 use Rattle.x86.specs.declared.Operand.the-variants as O
 use Rattle.x86.specs.declared.Instruction.{Instruction}
-use Rattle.x86.specs.Instructions.{instruction, symmetric, exchanged, byRegister, isNop, canonical}
+use Rattle.x86.specs.Instructions.{instruction, crossing, byRegister, isNop, canonical}
 
 false-true : {P : Type 0} → false ≡ true → P
 false-true e = let z : _≡_ {A = ℕ} 0 1 = cc in absurd (omega arith)
@@ -48,7 +48,7 @@ module _ (g : Operand → ℕ) (nothing : g O.None ≡ 0) (register : (n : ℕ) 
 
   pub canonical-sum : (op : Operation) (w : OperandSize) (a b : Operand) → sum (canonical op w a b) ≡ g a + g b
   unfolding canonical
-  canonical-sum op w a b = go (isNop op w a b) (both (symmetric op) (exchanged a b)) refl
+  canonical-sum op w a b = go (isNop op w a b) (crossing op a b) refl
     where
       go : (i j : Bool) → isNop op w a b ≡ i
           → sum (pick i (instruction Op.NOP S.Unspecified O.None O.None) (pick j (instruction op w b a) (instruction op w a b))) ≡ g a + g b

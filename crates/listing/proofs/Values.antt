@@ -15,7 +15,7 @@ use Rattle.mrc_compiler.specs.Choose.{pick, either}
 use Rattle.x86.specs.declared.Operand.{Operand}
 use Rattle.x86.specs.declared.Operand.the-variants as O
 use Rattle.x86.specs.Instructions.{inEffect}
-use Rattle.x86.specs.Forms.{Slot, rm, rm-near, mem, reg, sreg, sreg-not-cs, acc, low3, bits34, bits34-not-cs, CL, DX, one, moffs, xlat, ib, iw, ib-sx, cb, cw, ptr, nil}
+use Rattle.x86.specs.Forms.{Slot, rm, rm-near, mem, mem-far, reg, sreg, sreg-not-cs, acc, low3, bits34, bits34-not-cs, CL, DX, one, moffs, xlat, ib, iw, ib-sx, cb, cw, ptr, nil}
 use Rattle.x86.specs.Reading.{Place, nowhere, by-modrm, by-address, by-bx-al, mode, low, displacementLength, about, addressLength, inMemory, displacementAt, memoryAt, rmAt, at, prefix}
 use Rattle.x86.specs.Listing.{Bytes}
 use Rattle.answers.specs.Layout.{wordBytes}
@@ -218,6 +218,7 @@ module _ (off p x next : ℕ) (t u : List ℕ) where
   holds c (rm w) = in-rm
   holds c rm-near = in-rm
   holds c mem = in-rm
+  holds c mem-far = in-rm
   holds c (reg w) = plain refl refl refl refl
   holds c sreg = plain refl refl refl refl
   holds c sreg-not-cs = plain refl refl refl refl

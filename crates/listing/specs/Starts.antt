@@ -97,9 +97,25 @@ exchange w a b way mode =
     (pick (both (eqb (b .kind) aRegister) (eqb mode 0)) (bare (0x90 + b .number % 8) L.None) (withRm (sized w 0x86 0x87) (a .number) b mode L.None))
     (withRm (sized w 0x86 0x87) (b .number) a mode L.None)
 
--- PUSH and POP: the opcodes for a register and a segment register
-unfoldable pub stack : ℕ → ℕ → Outline → Start
-stack c d a = bare (pick (eqb (a .kind) aRegister) (plus c (a .number % 8)) (plus d (a .number % 4 * 8))) L.None
+-- TEST of an immediate: F6, F7 and the accumulator's form
+unfoldable pub testImmediate : OperandSize → Outline → ℕ → ℕ → Start
+testImmediate w a way mode = pick (eqb way 0) (withRm (sized w 0xF6 0xF7) 0 a mode (immediate w)) (bare (sized w 0xA8 0xA9) (immediate w))
+
+-- TEST of a register: of two the second in reg; memory stands second
+unfoldable pub test : OperandSize → Outline → Outline → ℕ → ℕ → Start
+test w a b way mode =
+    pick (eqb (b .kind) anImmediate) (testImmediate w a way mode)
+    (pick (eqb (b .kind) inMemory) (withRm (sized w 0x84 0x85) (a .number) b mode L.None) (withRm (sized w 0x84 0x85) (b .number) a mode L.None))
+
+-- PUSH and POP: the opcodes for a register and a segment register; the one with /n for a register or memory
+unfoldable pub stack : ℕ → ℕ → ℕ → ℕ → Outline → ℕ → ℕ → Start
+stack c d e n a way mode =
+    pick (eqb way 0) (withRm e n a mode L.None)
+    (bare (pick (eqb (a .kind) aRegister) (plus c (a .number % 8)) (plus d (a .number % 4 * 8))) L.None)
+
+-- RET, with an immediate or without
+unfoldable pub ret : Outline → Start
+ret a = pick (eqb (a .kind) anImmediate) (bare 0xC2 L.Word) (bare 0xC3 L.None)
 
 -- LEA LES LDS
 unfoldable pub load : ℕ → Outline → Outline → ℕ → Start
@@ -109,11 +125,14 @@ load c a b mode = withRm c (a .number) b mode L.None
 unfoldable pub shift : ℕ → OperandSize → Outline → Outline → ℕ → Start
 shift n w a b mode = withRm (pick (eqb (b .kind) aRegister) (sized w 0xD2 0xD3) (sized w 0xD0 0xD1)) n a mode L.None
 
-unfoldable pub call : Outline → ℕ → Start
-call a mode = pick (eqb (a .kind) aNear) (bare 0xE8 L.Near16) (withRm 0xFF 2 a mode L.None)
+-- CALL: through memory near at the width of a word, far without a width
+unfoldable pub call : OperandSize → Outline → ℕ → Start
+call w a mode = pick (eqb (a .kind) aNear) (bare 0xE8 L.Near16) (withRm 0xFF (sized w 3 2) a mode L.None)
 
-unfoldable pub jump : Outline → ℕ → Start
-jump a mode = pick (eqb (a .kind) aNear) (bare 0xE9 L.Near16) (pick (eqb (a .kind) aFar) (bare 0xEA L.Far) (withRm 0xFF 4 a mode L.None))
+unfoldable pub jump : Outline → ℕ → ℕ → Start
+jump a way mode =
+    pick (eqb (a .kind) aNear) (pick (eqb way 0) (bare 0xE9 L.Near16) (bare 0xEB L.Near8))
+    (pick (eqb (a .kind) aFar) (bare 0xEA L.Far) (withRm 0xFF 4 a mode L.None))
 
 -- a single byte; NOP is 87 C0 too
 unfoldable pub single : ℕ → ℕ → Start
@@ -127,17 +146,17 @@ unfoldable pub startIn : Group → ℕ → OperandSize → Outline → Outline �
 startIn Gr.Arithmetic n w a b way mode = arithmetic n w a b way mode
 startIn Gr.Unary n w a b way mode = unary n w a mode
 startIn Gr.Mov n w a b way mode = move w a b way mode
-startIn Gr.Test n w a b way mode = bare 0xA8 L.Byte
+startIn Gr.Test n w a b way mode = test w a b way mode
 startIn Gr.Xchg n w a b way mode = exchange w a b way mode
 startIn Gr.IncDec n w a b way mode = incDec n w a way mode
-startIn Gr.Push n w a b way mode = stack 0x50 0x06 a
-startIn Gr.Pop n w a b way mode = stack 0x58 0x07 a
-startIn Gr.Ret n w a b way mode = bare 0xC3 L.None
+startIn Gr.Push n w a b way mode = stack 0x50 0x06 0xFF 6 a way mode
+startIn Gr.Pop n w a b way mode = stack 0x58 0x07 0x8F 0 a way mode
+startIn Gr.Ret n w a b way mode = ret a
 startIn Gr.Lea n w a b way mode = load n a b mode
 startIn Gr.LesLds n w a b way mode = load n a b mode
 startIn Gr.Shift n w a b way mode = shift n w a b mode
-startIn Gr.Call n w a b way mode = call a mode
-startIn Gr.Jmp n w a b way mode = jump a mode
+startIn Gr.Call n w a b way mode = call w a mode
+startIn Gr.Jmp n w a b way mode = jump a way mode
 startIn Gr.Jcc n w a b way mode = bare n L.Near8
 startIn Gr.Loopc n w a b way mode = bare n L.Near8
 startIn Gr.NoOperands n w a b way mode = single n way

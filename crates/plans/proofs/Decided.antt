@@ -30,9 +30,10 @@ use Rattle.mrc_compiler.specs.Choose.{pick, both, isnt, bySize, byJump}
 use Rattle.mrc_compiler.specs.Values.{within}
 use Rattle.x86.specs.Forms.{Form}
 use Rattle.x86.specs.Forms as F
+use Rattle.x86.specs.Reading.{keep}
 use Rattle.groups.specs.declared.Group.{Group}
 use Rattle.groups.specs.declared.Group.the-variants as G
-use Rattle.answers.specs.Rules.{unasked, either-states, ordinary, refusal, isWord, open-where, at-operands, at-first, rule}
+use Rattle.answers.specs.Rules.{unasked, either-states, ordinary, refusal, isWord, at-operands, at-first, rule}
 use Rattle.answers.specs.Blocks.{block}
 use Rattle.answers.specs.Choice.{Choice, none, straight, takes, choose, eitherWay, countBy}
 use Rattle.answers.specs.Questions.{formFound, targetBy, isForm, isSupported}
@@ -49,10 +50,10 @@ use Rattle.plans.proofs.Laws.{Told, told, both-no, both-swap, kind-no}
 -- ---- two operands of one size
 -- questions 5 to 7, once the size is settled
 abbrev sizedPlan : Group → List Form → OperandSize → OperandData → OperandData → Plan
-sizedPlan g fs w a b = let c = choose (eitherWay g) fs w a w b in refusing (formFound g c a b ∷ []) (choicePlan g c)
+sizedPlan g fs w a b = let c = choose (eitherWay g a b) fs w a w b in refusing (formFound g c a b ∷ []) (choicePlan g c)
 
 by-common : (g : Group) (fs : List Form) (k n : ℕ) (a b : OperandData) (f : DataSize → Line)
-    → rule g .sizing ≡ either-states → targetBy (rule g .special) a ≡ true → countBy (rule g .special) k ≡ true
+    → rule g .sizing ≡ either-states → targetBy (rule g .special) a ≡ true → keep (countBy (rule g .special) k) fs ≡ fs
     → ((z : DataSize) → planned (decision (f z) z) n ≡ sizedPlan g fs (sizeFromSome z) a b)
     → planned (byCommon (commonOf (a .size) (b .size)) f) n ≡ planIn g fs k a b
 by-common g fs k n a b f s t c h = go (commonOf (a .size) (b .size)) (told (a .size) (b .size))
@@ -166,24 +167,29 @@ module _ (op : Operation) (n : ℕ) (a b : OperandData) where
   xchg-law z K.Mem K.Mem hk hj = simp (hk, hj, both-no)
 
   -- ---- TEST
-  test-al : (z : DataSize) (al : Bool) → a .kind ≡ K.Reg → b .kind ≡ K.Imm → eqb (a .rm) 0 ≡ al
-      → planned (decision (testForm K.Reg K.Imm (byData z (eqb (a .rm) 0) false)) z) n ≡ sizedPlan G.Test (F.test op) (sizeFromSome z) a b
-  test-al Z.Byte true hk hj ha = rw (hk, hj, ha)
-  test-al Z.Byte false hk hj ha = rw (hk, hj, ha)
-  test-al Z.Word al hk hj ha = rw (hk, hj)
+  test-immediate : (z : DataSize) (acc : Bool) → a .kind ≡ K.Reg → b .kind ≡ K.Imm → eqb (a .rm) 0 ≡ acc
+      → planned (decision (testForm K.Reg K.Imm (eqb (a .rm) 0)) z) n ≡ sizedPlan G.Test (F.test op) (sizeFromSome z) a b
+  test-immediate Z.Byte true hk hj ha = rw (hk, hj, ha)
+  test-immediate Z.Byte false hk hj ha = rw (hk, hj, ha)
+  test-immediate Z.Word true hk hj ha = rw (hk, hj, ha)
+  test-immediate Z.Word false hk hj ha = rw (hk, hj, ha)
 
   test-law : (z : DataSize) (k j : OperandKind) → a .kind ≡ k → b .kind ≡ j
-      → planned (decision (testForm k j (byData z (eqb (a .rm) 0) false)) z) n ≡ sizedPlan G.Test (F.test op) (sizeFromSome z) a b
+      → planned (decision (testForm k j (eqb (a .rm) 0)) z) n ≡ sizedPlan G.Test (F.test op) (sizeFromSome z) a b
   test-law z K.Imm j hk hj = rw hk
-  test-law z K.Reg K.Imm hk hj = test-al z _ hk hj refl
-  test-law z K.Reg K.Reg hk hj = simp (hk, hj, both-no)
+  test-law z K.Reg K.Imm hk hj = test-immediate z _ hk hj refl
+  test-law Z.Byte K.Reg K.Reg hk hj = rw (hk, hj)
+  test-law Z.Word K.Reg K.Reg hk hj = rw (hk, hj)
   test-law z K.Reg K.Seg hk hj = simp (hk, hj, both-no)
-  test-law z K.Reg K.Mem hk hj = simp (hk, hj, both-no)
+  test-law Z.Byte K.Reg K.Mem hk hj = simp (hk, hj, both-no)
+  test-law Z.Word K.Reg K.Mem hk hj = simp (hk, hj, both-no)
   test-law z K.Seg j hk hj = rw hk
-  test-law z K.Mem K.Imm hk hj = rw (hk, hj)
-  test-law z K.Mem K.Reg hk hj = rw (hk, hj)
-  test-law z K.Mem K.Seg hk hj = rw (hk, hj)
-  test-law z K.Mem K.Mem hk hj = rw (hk, hj)
+  test-law Z.Byte K.Mem K.Imm hk hj = rw (hk, hj)
+  test-law Z.Word K.Mem K.Imm hk hj = rw (hk, hj)
+  test-law Z.Byte K.Mem K.Reg hk hj = rw (hk, hj)
+  test-law Z.Word K.Mem K.Reg hk hj = rw (hk, hj)
+  test-law z K.Mem K.Seg hk hj = simp (hk, hj, both-no)
+  test-law z K.Mem K.Mem hk hj = simp (hk, hj, both-no)
 
   -- ---- one operand of its own size
   unary-law : (c : ℕ) (s : OperandSize) (k : OperandKind) → a .size ≡ s → a .kind ≡ k → planned (decisionIn G.Unary c a b) n ≡ planIn G.Unary (F.unary n op) c a b
@@ -366,19 +372,12 @@ module _ (op : Operation) (n : ℕ) (a b : OperandData) where
   through-law g l far short f why at J.Near S.Word h r = h
   through-law g l far short f why at J.Short s h r = r
 
-  -- its refusals: of CALL through a register and through memory, of JMP
+  -- its refusals: of CALL through a register, of JMP
   call-reg-refusal : (j : JumpKind) → byJump j one one one one ≡ one
   call-reg-refusal J.None = refl
   call-reg-refusal J.Far = refl
   call-reg-refusal J.Near = refl
   call-reg-refusal J.Short = refl
-
-  call-mem-refusal : (j : JumpKind) → let r = open-where (byJump j false true false false) (at-operands a b) in
-      byJump j one (P.Refused W.NotSupported At.Operands) one one ≡ P.Refused (r .why) (r .at)
-  call-mem-refusal J.None = refl
-  call-mem-refusal J.Far = refl
-  call-mem-refusal J.Near = refl
-  call-mem-refusal J.Short = refl
 
   jmp-refusal : (j : JumpKind) → let r = pick (byJump j false true false true) (at-first a b) (at-operands a b) in
       byJump j one (P.Refused W.InvalidOperands At.First) one (P.Refused W.InvalidOperands At.First) ≡ P.Refused (r .why) (r .at)
@@ -386,6 +385,19 @@ module _ (op : Operation) (n : ℕ) (a b : OperandData) where
   jmp-refusal J.Far = refl
   jmp-refusal J.Near = refl
   jmp-refusal J.Short = refl
+
+  -- through memory near or far
+  call-memory : (c : ℕ) (j : JumpKind) (s : OperandSize) → a .kind ≡ K.Mem → a .«jmp_kind» ≡ j → a .size ≡ s → planned (decisionIn G.Call c a b) n ≡ planIn G.Call (F.call op) c a b
+  call-memory c J.None S.Unspecified hk hj hs = rw (hk, hj, hs)
+  call-memory c J.None S.Byte hk hj hs = rw (hk, hj, hs)
+  call-memory c J.None S.Word hk hj hs = rw (hk, hj, hs)
+  call-memory c J.Far S.Unspecified hk hj hs = rw (hk, hj, hs)
+  call-memory c J.Far S.Byte hk hj hs = rw (hk, hj, hs)
+  call-memory c J.Far S.Word hk hj hs = rw (hk, hj, hs)
+  call-memory c J.Near S.Unspecified hk hj hs = rw (hk, hj, hs)
+  call-memory c J.Near S.Byte hk hj hs = rw (hk, hj, hs)
+  call-memory c J.Near S.Word hk hj hs = rw (hk, hj, hs)
+  call-memory c J.Short s hk hj hs = rw (hk, hj)
 
   call-law : (c : ℕ) (k : OperandKind) (j : JumpKind) → a .kind ≡ k → a .«jmp_kind» ≡ j → planned (decisionIn G.Call c a b) n ≡ planIn G.Call (F.call op) c a b
   call-law c K.Imm J.None hk hj = rw (hk, hj)
@@ -396,9 +408,7 @@ module _ (op : Operation) (n : ℕ) (a b : OperandData) where
       rw hk (through-law G.Call L.CallRm L.InvalidOperands L.InvalidOperands (F.form 0xFF (F./ 2) op F.rm-near F.nil) W.InvalidOperands At.Operands
       (a .«jmp_kind») (a .size) refl (call-reg-refusal (a .«jmp_kind»)))
   call-law c K.Seg j hk hj = rw hk
-  call-law c K.Mem j hk hj =
-      rw hk (through-law G.Call L.CallRm L.LeftOpen L.InvalidOperands (F.form 0xFF (F./ 2) op F.rm-near F.nil) _ _
-      (a .«jmp_kind») (a .size) refl (call-mem-refusal (a .«jmp_kind»)))
+  call-law c K.Mem j hk hj = call-memory c _ _ hk refl refl
 
   jmp-law : (c : ℕ) (k : OperandKind) (j : JumpKind) (word : Bool) → a .kind ≡ k → a .«jmp_kind» ≡ j → within (pos 0) (pos 65535) (a .imm) ≡ word
       → planned (decisionIn G.Jmp c a b) n ≡ planIn G.Jmp (F.jump op) c a b
@@ -433,9 +443,12 @@ module _ (op : Operation) (n : ℕ) (a b : OperandData) where
   int-law c K.Seg hk = rw hk
   int-law c K.Mem hk = rw hk
 
-  ret-law : (c : ℕ) (none : Bool) → eqb c 0 ≡ none → planned (decisionIn G.Ret c a b) n ≡ planIn G.Ret (F.single 0xC3 op ∷ []) c a b
-  ret-law c true h = rw h
-  ret-law c false h = rw h
+  ret-law : (c : ℕ) (none : Bool) (k : OperandKind) → eqb c 0 ≡ none → a .kind ≡ k → planned (decisionIn G.Ret c a b) n ≡ planIn G.Ret (F.ret op) c a b
+  ret-law c true k h hk = rw h
+  ret-law c false K.Imm h hk = rw (h, hk)
+  ret-law c false K.Reg h hk = rw (h, hk)
+  ret-law c false K.Seg h hk = rw (h, hk)
+  ret-law c false K.Mem h hk = rw (h, hk)
 
 -- ---- every group
 -- what a group decides is its plan with its block of the table; its opcodes are bytes
@@ -452,7 +465,7 @@ decided G.Xchg n op c a b h = by-common G.Xchg (F.exchange op) c n a b _ refl re
 decided G.IncDec n op c a b h = inc-law op n a b (h (F.form (0x40 + 8 * n) F.+r op (F.low3 F.word) F.nil) (List·Memᴰ·head refl)) c (a .size) (a .kind) refl refl
 decided G.Push n op c a b h = push-law op n a b c (a .size) (a .kind) refl refl
 decided G.Pop n op c a b h = pop-law op n a b c (a .size) (a .kind) _ refl refl refl
-decided G.Ret n op c a b h = ret-law op n a b c _ refl
+decided G.Ret n op c a b h = ret-law op n a b c _ (a .kind) refl refl
 decided G.Lea n op c a b h = load-law op n a b G.Lea refl (a .size) (a .kind) (b .kind) refl refl refl c
 decided G.LesLds n op c a b h = load-law op n a b G.LesLds refl (a .size) (a .kind) (b .kind) refl refl refl c
 decided G.Shift n op c a b h = shift-law op n a b c (a .size) (a .kind) refl refl

@@ -56,12 +56,13 @@ addForm k j acc short =
 abbrev pub rmForm : Line → OperandKind → Line
 rmForm l k = byKind k L.InvalidOperands l L.InvalidOperands l
 
+-- acc: the first is AL or AX
 abbrev pub testForm : OperandKind → OperandKind → Bool → Line
-testForm k j al =
+testForm k j acc =
     byKind k L.InvalidOperands
-    (byKind j (pick al L.TestAccImm L.LeftOpen) L.LeftOpen L.InvalidOperands L.LeftOpen)
+    (byKind j (pick acc L.TestAccImm L.TestRmImm) L.TestRmReg L.InvalidOperands L.TestRegRm)
     L.InvalidOperands
-    (byKind j L.LeftOpen L.LeftOpen L.InvalidOperands L.InvalidOperands)
+    (byKind j L.TestRmImm L.TestRmReg L.InvalidOperands L.InvalidOperands)
 
 abbrev pub incForm : DataSize → OperandKind → Line
 incForm z k = byKind k L.InvalidOperands (byData z L.IncRm L.IncReg) L.InvalidOperands L.IncRm
@@ -95,10 +96,10 @@ xchgForm k j a b =
     (byKind j L.InvalidOperands L.XchgRmReg L.InvalidOperands L.InvalidOperands)
 
 abbrev pub pushForm : OperandKind → Bool → Line
-pushForm k word = byKind k L.InvalidFirst (pick word L.PushReg L.InvalidFirst) L.PushSreg (pick word L.LeftOpen L.InvalidFirst)
+pushForm k word = byKind k L.InvalidFirst (pick word L.PushReg L.InvalidFirst) L.PushSreg (pick word L.PushRm L.InvalidFirst)
 
 abbrev pub popForm : OperandKind → Bool → Bool → Line
-popForm k word cs = pick word (byKind k L.InvalidSize L.PopReg (pick cs L.InvalidOperands L.PopSreg) L.LeftOpen) L.InvalidSize
+popForm k word cs = pick word (byKind k L.InvalidSize L.PopReg (pick cs L.InvalidOperands L.PopSreg) L.PopRm) L.InvalidSize
 
 abbrev pub loadForm : OperandKind → Bool → OperandKind → Line
 loadForm k word j =
@@ -123,20 +124,27 @@ throughForm l jump size f s =
     let near = bySize size l L.InvalidOperands l in
     byJump jump near f near s
 
+-- through memory that holds a far target, no Byte
+abbrev pub farForm : OperandSize → Line
+farForm size = bySize size L.CallMemFar L.InvalidOperands L.CallMemFar
+
 abbrev pub callForm : OperandKind → JumpKind → OperandSize → Line
 callForm k jump size =
     byKind k (byJump jump L.CallRel L.InvalidOperands L.CallRel L.InvalidOperands)
-    (throughForm L.CallRm jump size L.InvalidOperands L.InvalidOperands) L.InvalidOperands (throughForm L.CallRm jump size L.LeftOpen L.InvalidOperands)
+    (throughForm L.CallRm jump size L.InvalidOperands L.InvalidOperands) L.InvalidOperands (throughForm L.CallRm jump size (farForm size) L.InvalidOperands)
 
 -- word: the immediate is one
 abbrev pub jmpForm : OperandKind → JumpKind → OperandSize → Bool → Line
 jmpForm k jump size word =
     let through = throughForm L.JmpRm jump size L.InvalidFirst L.InvalidFirst in
-    byKind k (pick word (byJump jump L.JmpRel L.JmpPtr L.JmpRel L.LeftOpen) L.TargetOutOfRange) through L.InvalidOperands through
+    byKind k (pick word (byJump jump L.JmpRel L.JmpPtr L.JmpRel L.JmpShort) L.TargetOutOfRange) through L.InvalidOperands through
 
 -- Jcc and the loops; r: the refusal
 abbrev pub shortForm : OperandKind → JumpKind → Line → Line
 shortForm k jump r = byKind k (byJump jump L.ShortRel r r L.ShortRel) r r r
+
+abbrev pub retForm : OperandKind → Line
+retForm k = byKind k L.RetImm L.InvalidOperands L.InvalidOperands L.InvalidOperands
 
 abbrev pub intForm : OperandKind → Line
 intForm k = byKind k L.IntImm L.InvalidFirst L.InvalidFirst L.InvalidFirst
@@ -161,12 +169,12 @@ abbrev pub decisionIn : Group → ℕ → OperandData → OperandData → Decisi
 decisionIn G.Arithmetic k a b = byCommon (commonOf (a .size) (b .size)) (λ z. addForm (a .kind) (b .kind) (eqb (a .rm) 0) (takesByte z b))
 decisionIn G.Unary k a b = byStated (statedSize (a .size)) L.SizeNotSpecified (λ z. rmForm L.UnaryRm (a .kind))
 decisionIn G.Mov k a b = byCommon (commonOf (a .size) (b .size)) (λ z. movForm z (a .kind) (b .kind) (accDirect a b) (accDirect b a) (eqb (a .rm) 1))
-decisionIn G.Test k a b = byCommon (commonOf (a .size) (b .size)) (λ z. testForm (a .kind) (b .kind) (byData z (eqb (a .rm) 0) false))
+decisionIn G.Test k a b = byCommon (commonOf (a .size) (b .size)) (λ z. testForm (a .kind) (b .kind) (eqb (a .rm) 0))
 decisionIn G.Xchg k a b = byCommon (commonOf (a .size) (b .size)) (λ z. xchgForm (a .kind) (b .kind) (isAx z (a .rm)) (isAx z (b .rm)))
 decisionIn G.IncDec k a b = byStated (statedSize (a .size)) L.InvalidSize (λ z. incForm z (a .kind))
 decisionIn G.Push k a b = plain (pushForm (a .kind) (isWord (a .size)))
 decisionIn G.Pop k a b = plain (popForm (a .kind) (isWord (a .size)) (eqb (a .rm) 1))
-decisionIn G.Ret k a b = plain (pick (eqb k 0) L.Ret L.LeftOpen)
+decisionIn G.Ret k a b = plain (pick (eqb k 0) L.Ret (retForm (a .kind)))
 decisionIn G.Lea k a b = plain (loadForm (a .kind) (isWord (a .size)) (b .kind))
 decisionIn G.LesLds k a b = plain (loadForm (a .kind) (isWord (a .size)) (b .kind))
 decisionIn G.Shift k a b =

@@ -12,13 +12,13 @@ use Rattle.mrc_compiler.specs.declared.encoder.generate.Plan.the-variants as P
 use Rattle.mrc_compiler.specs.declared.encoder.generate.Why.the-variants as W
 use Rattle.mrc_compiler.specs.declared.encoder.generate.At.the-variants as At
 use Rattle.mrc_compiler.specs.Choose.{pick}
-use Rattle.x86.specs.Forms.{Slot, rm, rm-near, mem, reg, sreg, sreg-not-cs, acc, low3, bits34, bits34-not-cs, CL, DX, one, moffs, xlat, ib, iw, ib-sx, cb, cw, ptr, nil, Extension, Form}
+use Rattle.x86.specs.Forms.{Slot, rm, rm-near, mem, mem-far, reg, sreg, sreg-not-cs, acc, low3, bits34, bits34-not-cs, CL, DX, one, moffs, xlat, ib, iw, ib-sx, cb, cw, ptr, nil, Extension, Form}
 use Rattle.x86.specs.Forms as F
 use Rattle.x86.specs.Reading.{Place, nowhere, by-modrm, by-address, by-bx-al, about, somewhere}
 use Rattle.answers.specs.Records.{dst, src}
 use Rattle.groups.specs.declared.Group.{Group}
 use Rattle.groups.specs.Grouping.{groupOf}
-use Rattle.answers.specs.Limits.{Kind, data-byte, data-word, memory-byte, memory-word, sign-extended, vector, port, address, target, segment, byteKind, wordKind}
+use Rattle.answers.specs.Limits.{Kind, data-byte, data-word, memory-byte, memory-word, sign-extended, vector, port, popped, address, target, segment, byteKind, wordKind}
 use Rattle.answers.specs.Choice.{Choice, none, straight, crossed, choice, formsOf}
 use Rattle.answers.specs.Questions.{Ask, groupAsks, isSupported}
 use Rattle.lines.specs.Lines.{oneCode, twoCodes}
@@ -33,6 +33,7 @@ immediateCode memory-word k = C.ImmSignedWord k
 immediateCode sign-extended k = C.ImmByte k
 immediateCode vector k = C.ImmByte k
 immediateCode port k = C.ImmByte k
+immediateCode popped k = C.ImmWord k
 immediateCode address k = C.DispWord k
 immediateCode target k = C.RelWord k
 immediateCode segment k = C.FarWords k
@@ -42,6 +43,7 @@ abbrev pub tail : Group → Slot → Slot → ℕ → List Code
 tail g f (rm w) k = []
 tail g f rm-near k = []
 tail g f mem k = []
+tail g f mem-far k = []
 tail g f (reg w) k = []
 tail g f sreg k = []
 tail g f sreg-not-cs k = []
@@ -67,6 +69,7 @@ abbrev pub inLow3 : Slot → Bool
 inLow3 (rm w) = false
 inLow3 rm-near = false
 inLow3 mem = false
+inLow3 mem-far = false
 inLow3 (reg w) = false
 inLow3 sreg = false
 inLow3 sreg-not-cs = false

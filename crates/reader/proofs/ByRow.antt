@@ -17,9 +17,9 @@ use Rattle.x86.proofs.Rows.{as-read}
 use Rattle.mrc_compiler.specs.declared.operations.OptionOperation.{OptionOperation}
 use Rattle.mrc_compiler.specs.declared.operations.OptionOperation.the-variants as D
 use Rattle.rows.specs.Rows.{nameOf, noForm, foundAt, extensionAt, shapeForm, anyForm, formAt}
-use Rattle.rows.proofs.Agree.{seen, saidBy, said, shapeOf, Agrees, agrees}
+use Rattle.rows.proofs.Agree.{seen, saidBy, said, Agrees, agrees}
 use Rattle.reader.specs.Answer.{firstOf, goingOn, formBehind, withForm}
-use Rattle.reader.specs.ByRow.{byFound, readShape, decodedShape, decodedSecond, mayFollow, decodedBehind, decodedOpcode}
+use Rattle.reader.specs.ByRow.{byFound, readShape, decodedShape, shapeWith, decodedSecond, mayFollow, decodedBehind, decodedOpcode}
 
 -- the reading looks at nothing else of a form
 alike : (off p c x : ℕ) (t : List ℕ) (f : Form) (e : Extension) (op : Operation) (a b : Slot)
@@ -51,25 +51,25 @@ follow : (b m : Bool) (f : Form) (fs : List Form) → m ≡ some mayNameMemory (
 follow true m f fs e = refl
 follow false m f fs e = sym e
 
-behind : (off p c n : ℕ) (t : List ℕ) (s : Shape) (fs : List Form) → Bytes t → Agrees c n s fs
-    → pick (eqb n 0) (withForm R.Nothing noForm) (decodedBehind off p s c t) ≡ withForm (readBehind off p c fs t) (firstOf (goingOn fs t))
-behind off p c n t s [] bs h = rw (h .unused) refl
-behind off p c n t s (f ∷ fs) bs h =
-    rw (h .unused, follow (eqb p 0) (mayNameMemory (anyForm s)) f fs (h .memory))
-    (go (mayFollow p s) (hasSecond (extensionAt (s .class))) (some (λ f. hasSecond (f .extension)) (f ∷ fs)) (h .second) refl t bs)
+behind : (off p c n : ℕ) (t : List ℕ) (fs : List Form) → Bytes t → Agrees c n (shapeWith n) fs
+    → pick (eqb n 0) (withForm R.Nothing noForm) (decodedBehind off p n c t) ≡ withForm (readBehind off p c fs t) (firstOf (goingOn fs t))
+behind off p c n t [] bs h = rw (h .unused) refl
+behind off p c n t (f ∷ fs) bs h =
+    rw (h .unused, follow (eqb p 0) (mayNameMemory (anyForm (shapeWith n 0))) f fs (h .memory))
+    (go (mayFollow p (shapeWith n 0)) (hasSecond (extensionAt (shapeWith n 0 .class))) (some (λ f. hasSecond (f .extension)) (f ∷ fs)) (h .second) refl t bs)
   where
     go : (o k l : Bool) → k ≡ l → some (λ f. hasSecond (f .extension)) (f ∷ fs) ≡ l → (t : List ℕ) → Bytes t
-        → pick o (pick k (decodedSecond off p s c t) (decodedShape off p s c 0 t)) (withForm R.Nothing noForm)
+        → pick o (pick k (decodedSecond off p n c t) (decodedShape off p (shapeWith n 0) c 0 t)) (withForm R.Nothing noForm)
         ≡ withForm (pick o (pick l (readSecond off p c (f ∷ fs) t) (readFirst off p c 0 t (f ∷ fs))) R.Nothing) (firstOf (pick l (fitting (getD t 0 0) (f ∷ fs)) (f ∷ fs)))
     go false k l e z t bs = refl
     go true true true e z [] bs = refl
-    go true true true e z (x ∷ t) bs = shape-reads off p c x t s (fitting x (f ∷ fs)) (h .with-second x (bs 0) z)
+    go true true true e z (x ∷ t) bs = shape-reads off p c x t (shapeWith n x) (fitting x (f ∷ fs)) (h .with-second x (bs 0) z)
     go true true false e z t bs = cc
     go true false true e z t bs = cc
-    go true false false e z t bs = shape-reads off p c 0 t s (f ∷ fs) (h .without z)
+    go true false false e z t bs = shape-reads off p c 0 t (shapeWith n 0) (f ∷ fs) (h .without z)
 
 -- behind a prefix the two readings are one
 pub opcode-by-row : (off p : ℕ) (s : List ℕ) → Bytes s → decodedOpcode off p s ≡ withForm (readOpcode off p s) (formBehind s)
 unfolding decodedOpcode
 opcode-by-row off p [] bs = refl
-opcode-by-row off p (c ∷ t) bs = behind off p c (getD rows c 0) t (shapeOf c) (startingWith c) (λ i. bs (suc i)) (agrees c (bs 0))
+opcode-by-row off p (c ∷ t) bs = behind off p c (getD rows c 0) t (startingWith c) (λ i. bs (suc i)) (agrees c (bs 0))

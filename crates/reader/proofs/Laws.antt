@@ -11,24 +11,25 @@ use lib.Seq.{take-all}
 use borrow.Author.Tests.{eq-eqb, ne-eqb, lt-ltb, le-ltb, le-leb, lt-leb}
 use Rattle.mrc_compiler.specs.declared.encoder.OperandSize.{OperandSize}
 use Rattle.mrc_compiler.specs.declared.operations.Operation.{Operation}
-use Rattle.mrc_compiler.specs.declared.operations.Operation.the-variants.{XCHG}
-use Rattle.mrc_compiler.specs.Choose.{pick, either, bySize}
+use Rattle.mrc_compiler.specs.declared.operations.Operation.the-variants.{TEST}
+use Rattle.mrc_compiler.specs.Choose.{pick, both, either, bySize}
 use Rattle.mrc_compiler.specs.Operations.{sameOperation}
 use Rattle.forms.specs.declared.FormName.{FormName}
 use Rattle.x86.specs.declared.Operand.{Operand}
 use Rattle.x86.specs.declared.Instruction.{Instruction}
 use Rattle.x86.specs.declared.Read.{Read}
 use Rattle.x86.specs.declared.Read.the-variants as R
-use Rattle.x86.specs.Forms.{Slot}
-use Rattle.x86.specs.Instructions.{instruction, canonical}
+use Rattle.x86.specs.declared.Operand.the-variants as O
+use Rattle.x86.specs.Forms.{Slot, rm, rm-near, mem, mem-far, reg, sreg, sreg-not-cs, acc, low3, bits34, bits34-not-cs, CL, DX, one, moffs, xlat, ib, iw, ib-sx, cb, cw, ptr, nil}
+use Rattle.x86.specs.Instructions.{byRegister, memoryFirst, canonical}
 use Rattle.x86.specs.Listing.{Bytes}
 use Rattle.x86.specs.Reading.{About, about, at, widthOf, addressLength, hasSecond, headLength, memoryLength, tailLength, inMemory, namesMemory, readForm, prefix, reads}
-use Rattle.x86.specs.Rows.{Shape, rows, shapeNumbered}
-use Rattle.rows.specs.Rows.{extensionAt, shapeForm, anyForm, formAt}
+use Rattle.x86.specs.Rows.{Shape, rows}
+use Rattle.rows.specs.Rows.{testsRegister, extensionAt, shapeForm, anyForm, formAt}
 use Rattle.reader.specs.declared.Decoded.{Decoded}
 use Rattle.reader.specs.declared.Decoded.the-variants.{Whole, Nothing, More}
 use Rattle.reader.specs.Answer.{formOf, withForm, decoded}
-use Rattle.reader.specs.ByRow.{decodedShape, mayFollow, decodedOpcode}
+use Rattle.reader.specs.ByRow.{decodedShape, shapeWith, mayFollow, decodedOpcode}
 use Rattle.reader.proofs.ByRow.{opcode-by-row}
 
 pub ruleset tests = (eq-eqb, ne-eqb, lt-ltb, le-ltb, le-leb, lt-leb)
@@ -42,10 +43,67 @@ pub one-or-two : {n : ℕ} (b : Bool) → n ≡ pick b 2 1 → n ≤ 2
 one-or-two true e = omega arith
 one-or-two false e = omega arith
 
--- only XCHG is brought into another form
-pub as-it-is : (op : Operation) (w : OperandSize) (a b : Operand) → sameOperation op XCHG ≡ false → instruction op w a b ≡ canonical op w a b
-unfolding canonical
-as-it-is op w a b e = rw e refl
+-- ---- which operands change places
+-- where testsRegister says so, the operation is TEST
+pub is-test : (t e r : Bool) → both t e ≡ r → pick r t true ≡ true
+is-test true true r h = rw (← h)
+is-test true false r h = rw (← h)
+is-test false e r h = rw (← h)
+
+both-no : (t : Bool) → both t false ≡ false
+both-no true = refl
+both-no false = refl
+
+both-yes : (t r m : Bool) → both t true ≡ r → both t m ≡ both r m
+both-yes true r m h = rw (← h)
+both-yes false r m h = rw (← h)
+
+-- before an immediate there is nothing to exchange
+quiet : (t r : Bool) (a : Operand) → both t (byRegister a (λ m. false) false) ≡ both r (byRegister a (λ m. false) false)
+quiet t r a = rw (none a, both-no t, both-no r)
+  where
+    none : (a : Operand) → byRegister a (λ m. false) false ≡ false
+    none O.None = refl
+    none (O.Register n) = refl
+    none (O.SegmentRegister n) = refl
+    none (O.Memory n d s) = refl
+    none (O.Immediate v) = refl
+    none (O.Near v) = refl
+    none (O.Far v s) = refl
+    none O.One = refl
+
+-- TEST without an immediate is told by the first byte; with one, nothing is exchanged
+pub alike-tests : (t r : Bool) (s : Slot) (p c x next : ℕ) (v u : List ℕ) (a : Operand) → both t (eqb (about s .takes) 0) ≡ r
+    → both t (memoryFirst a (at s p c x next v u)) ≡ both r (memoryFirst a (at s p c x next v u))
+alike-tests t r (rm w) p c x next v u a h = both-yes t r _ h
+alike-tests t r rm-near p c x next v u a h = both-yes t r _ h
+alike-tests t r mem p c x next v u a h = both-yes t r _ h
+alike-tests t r mem-far p c x next v u a h = both-yes t r _ h
+alike-tests t r (reg w) p c x next v u a h = both-yes t r _ h
+alike-tests t r sreg p c x next v u a h = both-yes t r _ h
+alike-tests t r sreg-not-cs p c x next v u a h = both-yes t r _ h
+alike-tests t r (acc w) p c x next v u a h = both-yes t r _ h
+alike-tests t r (low3 w) p c x next v u a h = both-yes t r _ h
+alike-tests t r bits34 p c x next v u a h = both-yes t r _ h
+alike-tests t r bits34-not-cs p c x next v u a h = both-yes t r _ h
+alike-tests t r CL p c x next v u a h = both-yes t r _ h
+alike-tests t r DX p c x next v u a h = both-yes t r _ h
+alike-tests t r one p c x next v u a h = both-yes t r _ h
+alike-tests t r (moffs w) p c x next v u a h = both-yes t r _ h
+alike-tests t r xlat p c x next v u a h = both-yes t r _ h
+alike-tests t r ib p c x next v u a h = quiet t r a
+alike-tests t r iw p c x next v u a h = quiet t r a
+alike-tests t r ib-sx p c x next v u a h = quiet t r a
+alike-tests t r cb p c x next v u a h = quiet t r a
+alike-tests t r cw p c x next v u a h = quiet t r a
+alike-tests t r ptr p c x next v u a h = quiet t r a
+alike-tests t r nil p c x next v u a h = both-yes t r _ h
+
+-- the same of operands that are known to stand in slots
+pub parts-alike : (op : Operation) (c x next p m : ℕ) (t : List ℕ) (g : Slot) (a : Operand) {b : Operand} → b ≡ at g p c x next t (take (length t - m) (drop m t))
+    → both (sameOperation op TEST) (eqb (about g .takes) 0) ≡ testsRegister c
+    → both (sameOperation op TEST) (memoryFirst a b) ≡ both (testsRegister c) (memoryFirst a b)
+parts-alike op c x next p m t g a e h = rw e (alike-tests (sameOperation op TEST) (testsRegister c) g p c x next t (take (length t - m) (drop m t)) a h)
 
 pub parts : (op : Operation) (w : OperandSize) (a b : Operand) (f g : Slot) (p c x next m : ℕ) (t : List ℕ) (k : Instruction)
     → a ≡ at f p c x next t (take (length t - m) (drop m t)) → b ≡ at g p c x next t (take (length t - m) (drop m t)) → k ≡ canonical op w a b
@@ -86,6 +144,10 @@ module _ (off p c x : ℕ) (t : List ℕ) (s : Shape) (op : Operation) {a b : Ab
         let n : m ≡ memoryLength (anyForm s) x = rw (ea, eb) at em in
         rw (sym stands ∙ y, l) (cc)
 
+-- a row below 45 has one shape
+pub one-shape : (n x y : ℕ) → n < 45 → shapeWith n x ≡ shapeWith n y
+one-shape n x y h = rw (ne-eqb n 45 (λ e. omega arith), ne-eqb n 46 (λ e. omega arith), ne-eqb n 47 (λ e. omega arith))
+
 -- ---- behind a prefix
 pub opcode-empty : (off p : ℕ) (s : List ℕ) → length s ≤ 0 → More ≡ decodedOpcode off p s
 unfolding decodedOpcode
@@ -101,7 +163,7 @@ opcode-unused off p n (c ∷ t) h e z = rw (eq-eqb (getD rows c 0) 0 (sym e ∙ 
 pub record Opened (p : ℕ) (s : List ℕ) (n : ℕ) (f : Shape) (b : Bool) : Type 0 where
   pub row : n ≡ getD rows (getD s 0 0) 0
   pub used : n ≡ 0 → ⊥
-  pub shape : f ≡ shapeNumbered n
+  pub shape : f ≡ shapeWith n 0
   pub follows : b ≡ mayFollow p f
 
 module _ (off p n : ℕ) (f : Shape) (b : Bool) where
@@ -122,23 +184,23 @@ module _ (off p n : ℕ) (f : Shape) (b : Bool) where
         go true q (x ∷ t) l = let d : m ≡ 2 = rw q at em in absurd (omega arith)
         go false q t l = let d : m ≡ 1 = rw q at em in absurd (omega arith)
 
-    pub opcode-on : (s : List ℕ) (x : ℕ) (r : Decoded) → 0 < length s → Opened p s n f b → m ≤ length s → x ≡ pick k (getD s 1 0) 0
-        → r ≡ decodedShape off p f (getD s 0 0) x (take (length s - m) (drop m s)) → r ≡ decodedOpcode off p s
+    pub opcode-on : (s : List ℕ) (x : ℕ) (g : Shape) (r : Decoded) → 0 < length s → Opened p s n f b → m ≤ length s → x ≡ pick k (getD s 1 0) 0 → g ≡ shapeWith n x
+        → r ≡ decodedShape off p g (getD s 0 0) x (take (length s - m) (drop m s)) → r ≡ decodedOpcode off p s
     unfolding decodedOpcode
-    opcode-on [] x r h o l ex z = absurd (omega arith)
-    opcode-on (c ∷ t) x r h o l ex z = go k refl t l ex z
+    opcode-on [] x g r h o l ex eg z = absurd (omega arith)
+    opcode-on (c ∷ t) x g r h o l ex eg z = go k refl t l ex z
       where
         go : (j : Bool) → k ≡ j → (t : List ℕ) → m ≤ length (c ∷ t) → x ≡ pick k (getD (c ∷ t) 1 0) 0
-            → r ≡ decodedShape off p f c x (take (length (c ∷ t) - m) (drop m (c ∷ t))) → r ≡ decodedOpcode off p (c ∷ t)
+            → r ≡ decodedShape off p g c x (take (length (c ∷ t) - m) (drop m (c ∷ t))) → r ≡ decodedOpcode off p (c ∷ t)
         go true q [] l ex z = let d : m ≡ 2 = rw q at em in absurd (omega arith)
         go true q (y ∷ t) l ex z =
             let d : m ≡ 2 = rw q at em in
             let w : x ≡ y = rw q at ex in
-            rw (← (o .row), ne-eqb n 0 (o .used), ← (o .shape), sym (o .follows) ∙ e, sym ek ∙ q) (rw (d, w, rest 2 (c ∷ y ∷ t)) at z)
+            rw (← (o .row), ne-eqb n 0 (o .used), ← (o .shape), sym (o .follows) ∙ e, sym ek ∙ q) (rw (d, eg, w, rest 2 (c ∷ y ∷ t)) at z)
         go false q t l ex z =
             let d : m ≡ 1 = rw q at em in
             let w : x ≡ 0 = rw q at ex in
-            rw (← (o .row), ne-eqb n 0 (o .used), ← (o .shape), sym (o .follows) ∙ e, sym ek ∙ q) (rw (d, w, rest 1 (c ∷ t)) at z)
+            rw (← (o .row), ne-eqb n 0 (o .used), ← (o .shape), sym (o .follows) ∙ e, sym ek ∙ q) (rw (d, eg, w, ← (o .shape), rest 1 (c ∷ t)) at z)
 
 -- ---- from the front
 pub read-empty : (off : ℕ) (s : List ℕ) → length s ≤ 0 → More ≡ decoded off s

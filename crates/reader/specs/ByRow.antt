@@ -10,8 +10,8 @@ use Rattle.mrc_compiler.specs.declared.operations.Operation.{Operation}
 use Rattle.mrc_compiler.specs.Choose.{pick, either}
 use Rattle.x86.specs.declared.Read.{Read}
 use Rattle.x86.specs.declared.Read.the-variants as R
-use Rattle.x86.specs.Reading.{hasSecond, mayNameMemory, readForm}
-use Rattle.x86.specs.Rows.{Shape, rows, shapeNumbered}
+use Rattle.x86.specs.Reading.{digit, hasSecond, mayNameMemory, readForm}
+use Rattle.x86.specs.Rows.{Shape, rows, shapeNumbered, byDigit}
 use Rattle.mrc_compiler.specs.declared.operations.OptionOperation.{OptionOperation}
 use Rattle.mrc_compiler.specs.declared.operations.OptionOperation.the-variants as D
 use Rattle.rows.specs.Rows.{noForm, foundAt, extensionAt, shapeForm, anyForm, formAt}
@@ -28,22 +28,28 @@ readShape off p s c x t = byFound (foundAt s c x) R.Nothing (λ op. readForm off
 unfoldable pub decodedShape : ℕ → ℕ → Shape → ℕ → ℕ → List ℕ → Decoded
 decodedShape off p s c x t = withForm (readShape off p s c x t) (formAt (s .class) c x)
 
-abbrev pub decodedSecond : ℕ → ℕ → Shape → ℕ → List ℕ → Decoded
-decodedSecond off p s c [] = withForm R.More noForm
-decodedSecond off p s c (x ∷ t) = decodedShape off p s c x t
+-- the shape in row n with second byte x
+abbrev pub shapeWith : ℕ → ℕ → Shape
+shapeWith n x = shapeNumbered (byDigit n (digit x))
+
+abbrev pub decodedSecond : ℕ → ℕ → ℕ → ℕ → List ℕ → Decoded
+decodedSecond off p n c [] = withForm R.More noForm
+decodedSecond off p n c (x ∷ t) = decodedShape off p (shapeWith n x) c x t
 
 -- may a row of this shape follow the prefix p (0: none)?
 abbrev pub mayFollow : ℕ → Shape → Bool
 mayFollow p s = either (eqb p 0) (mayNameMemory (anyForm s))
 
-abbrev pub decodedBehind : ℕ → ℕ → Shape → ℕ → List ℕ → Decoded
-decodedBehind off p s c t =
+-- the shapes of a row agree on whether there is a second byte, and on memory
+abbrev pub decodedBehind : ℕ → ℕ → ℕ → ℕ → List ℕ → Decoded
+decodedBehind off p n c t =
+    let s = shapeWith n 0 in
     pick (mayFollow p s)
-    (pick (hasSecond (extensionAt (s .class))) (decodedSecond off p s c t) (decodedShape off p s c 0 t))
+    (pick (hasSecond (extensionAt (s .class))) (decodedSecond off p n c t) (decodedShape off p s c 0 t))
     (withForm R.Nothing noForm)
 
 abbrev pub decodedRow : ℕ → ℕ → ℕ → ℕ → List ℕ → Decoded
-decodedRow off p n c t = pick (eqb n 0) (withForm R.Nothing noForm) (decodedBehind off p (shapeNumbered n) c t)
+decodedRow off p n c t = pick (eqb n 0) (withForm R.Nothing noForm) (decodedBehind off p n c t)
 
 unfoldable pub decodedOpcode : ℕ → ℕ → List ℕ → Decoded
 decodedOpcode off p [] = withForm R.More noForm

@@ -3,15 +3,16 @@ ghost use mathlib.Core.Path.{_≡_};
 ghost use Prim.Native.Nat.{_+_, _≤_, _<_};
 ghost use lib.Dec.{eqb};
 ghost use lib.ListN.{length, getD, drop};
-ghost use Rattle.mrc_compiler.specs.declared.operations.Operation.the-variants.{XCHG};
-ghost use Rattle.mrc_compiler.specs.Choose.{pick, either, bySize};
+ghost use Rattle.mrc_compiler.specs.declared.operations.Operation.the-variants.{XCHG, TEST};
+ghost use mathlib.Core.Bool.{true};
+ghost use Rattle.mrc_compiler.specs.Choose.{pick, both, either, bySize};
 ghost use Rattle.mrc_compiler.specs.Operations.{sameOperation};
-ghost use Rattle.x86.specs.Instructions.{canonical};
+ghost use Rattle.x86.specs.Instructions.{memoryFirst, canonical};
 ghost use Rattle.x86.specs.Reading.{about, at, addressLength, hasSecond, inMemory, readForm, prefix, reads};
-ghost use Rattle.x86.specs.Rows.{rows, shapeNumbered};
-ghost use Rattle.rows.specs.Rows.{exchanges, extensionAt, shapeForm, formAt};
+ghost use Rattle.x86.specs.Rows.{rows};
+ghost use Rattle.rows.specs.Rows.{exchanges, testsRegister, extensionAt, shapeForm, formAt};
 ghost use Rattle.reader.specs.Answer.{withForm, decoded, refusalOf};
-ghost use Rattle.reader.specs.ByRow.{mayFollow, decodedShape, decodedOpcode};
+ghost use Rattle.reader.specs.ByRow.{mayFollow, decodedShape, shapeWith, decodedOpcode};
 use forms::About;
 use forms::Class;
 use forms::FormName;
@@ -114,11 +115,14 @@ fn width_of(first: OperandSize, second: OperandSize) -> OperandSize
 
 // Operation, width and operands in the one form that all the same instructions have.
 fn settled(c: u8, operation: Operation, width: OperandSize, a: Operand, b: Operand) -> Instruction
-    requires { ⌜ sameOperation operation XCHG ≡ exchanges c ⌝ }
+    requires { ⌜ (sameOperation operation XCHG ≡ exchanges c) × (both (sameOperation operation TEST) (memoryFirst a b) ≡ both (testsRegister c) (memoryFirst a b)) × (pick (testsRegister c) (sameOperation operation TEST) true ≡ true) ⌝ }
     ensures { λ r. ⌜ r ≡ canonical operation width a b ⌝ }
 {
     if rows::is_exchange(c) {
         return slots::exchange(operation, width, a, b);
+    }
+    if rows::tests_register(c) {
+        return slots::register_first(operation, width, a, b);
     }
     Instruction {
         operation,
@@ -141,7 +145,7 @@ fn instruction_at(
     memory: usize,
     t: &[u8],
 ) -> Instruction
-    requires { ⌜ (sameOperation operation XCHG ≡ exchanges c) × (next < 131072) × (memory ≤ length (now t)) ⌝ }
+    requires { ⌜ (sameOperation operation XCHG ≡ exchanges c) × (both (sameOperation operation TEST) (eqb (about second .takes) 0) ≡ testsRegister c) × (next < 131072) × (memory ≤ length (now t)) ⌝ }
     ensures { λ r. ⌜ r ≡ canonical operation width (at first prefix c x next (now (t .entry)) (drop memory (now (t .entry)))) (at second prefix c x next (now (t .entry)) (drop memory (now (t .entry)))) ⌝ }
 {
     let a = slots::operand_at(first, prefix, c, x, next, t, &t[memory..]);
@@ -161,7 +165,7 @@ fn read_form(
     offset: u16,
     t: &[u8],
 ) -> Decoded
-    requires { ⌜ (sameOperation operation XCHG ≡ exchanges c) × (a ≡ about (shape .first)) × (b ≡ about (shape .second)) ⌝ }
+    requires { ⌜ (sameOperation operation XCHG ≡ exchanges c) × (both (sameOperation operation TEST) (eqb (about (shape .second) .takes) 0) ≡ testsRegister c) × (a ≡ about (shape .first)) × (b ≡ about (shape .second)) ⌝ }
     ensures { λ r. ⌜ r ≡ withForm (readForm offset prefix c x (now (t .entry)) (shapeForm shape operation)) (formAt (shape .class) c x) ⌝ }
 {
     let class = shape.class;
@@ -200,7 +204,7 @@ fn read_form(
 
 // The same, with the operation that first and second byte have.
 fn read_shape(shape: Shape, prefix: u8, c: u8, x: u8, offset: u16, t: &[u8]) -> Decoded
-    requires { ⌜ shape ≡ shapeNumbered (getD rows c 0) ⌝ }
+    requires { ⌜ shape ≡ shapeWith (getD rows c 0) x ⌝ }
     ensures { λ r. ⌜ r ≡ decodedShape offset prefix shape c x (now (t .entry)) ⌝ }
 {
     let class = shape.class;
@@ -239,6 +243,17 @@ fn second_byte(second: bool, s: &[u8]) -> u8
     0
 }
 
+// The shape in a row with second byte x, where this is the one with 0: they differ in three rows.
+fn shape_with(row: u8, shape: Shape, x: u8) -> Shape
+    requires { ⌜ shape ≡ shapeWith row 0 ⌝ }
+    ensures { λ r. ⌜ r ≡ shapeWith row x ⌝ }
+{
+    if row < 45 {
+        return shape;
+    }
+    shapes::shape_of(rows::shape_row(row, x))
+}
+
 // The bytes behind the prefix (0: none).
 fn read_opcode(prefix: u8, s: &[u8], offset: u16) -> Decoded
     ensures { λ r. ⌜ r ≡ decodedOpcode offset prefix (now (s .entry)) ⌝ }
@@ -249,13 +264,14 @@ fn read_opcode(prefix: u8, s: &[u8], offset: u16) -> Decoded
         if row == 0 {
             return Decoded::Nothing;
         }
-        let shape = shapes::shape_of(row);
+        let shape = shapes::shape_of(rows::shape_row(row, 0));
         if may_follow(prefix, shape) {
             let class = shape.class;
             let second = rows::has_second(class);
             let from = opcode_length(second);
             if from <= s.len() {
                 let x = second_byte(second, s);
+                let shape = shape_with(row, shape, x);
                 return read_shape(shape, prefix, c, x, offset, &s[from..]);
             }
             return Decoded::More;

@@ -7,8 +7,9 @@ the form's opcode, extension (0 none, 1 +r, 2 + segment, 3 /r, 4 /n, 5 0A) and d
 2 segment register, 3 memory, 4 immediate, 5 near, 6 far, 7 the constant 1), number or base, value low and high, segment.
 
 Where the values come from: operation, width, operands and length from ndisasm's text; the form from the opcode column of the Intel SDM
-(FORMS below); LOCK, REP and REPNE, which ndisasm takes for prefixes, and the refusals from document 01. XCHG's operands are put in the
-order that makes the same instructions equal (register first, the lower first; AX,AX is NOP)."""
+(FORMS below); LOCK, REP and REPNE, which ndisasm takes for prefixes, and the refusals from documents 01 and 02. XCHG's operands are put in the
+order that makes the same instructions equal (register first, the lower first; AX,AX is NOP), and so is TEST's register before its memory, while its
+two registers keep their order. A far CALL through memory has no width, a near one is a word."""
 import pathlib, re, subprocess, sys, tempfile
 
 sys.path.insert(0, str(pathlib.Path(__file__).resolve().parents[3] / 'tools'))
@@ -37,12 +38,20 @@ FORMS += [(range(0x70, 0x80), NONE, (), 1), (range(0xE0, 0xE8), NONE, (), 1), ((
 FORMS += [((0xD4, 0xD5), SECOND, (), 0), (range(0xEC, 0xF0), NONE, (), 0), ((0xD7,), NONE, (), 0)]
 FORMS += [((0x27, 0x2F, 0x37, 0x3F, 0x98, 0x99, 0x9C, 0x9D, 0x9E, 0x9F, 0xA4, 0xA5, 0xA6, 0xA7, 0xAA, 0xAB, 0xAC, 0xAD, 0xAE, 0xAF, 0xC3, 0xCC, 0xCE, 0xCF, 0xD6,
     0xF0, 0xF2, 0xF3, 0xF4, 0xF5, 0xF8, 0xF9, 0xFA, 0xFB, 0xFC, 0xFD), NONE, (), 0)]
+# document 02, No. 1: TEST, PUSH and POP of memory, RET with a word, CALL through far memory, JMP short, WAIT
+FORMS += [((0x84, 0x85), SLASH_R, (), 0), ((0xA9,), NONE, (), 2), ((0xF6,), DIGIT, (0,), 1), ((0xF7,), DIGIT, (0,), 2), ((0x8F,), DIGIT, (0,), 0)]
+FORMS += [((0xFF,), DIGIT, (3, 6), 0), ((0xC2,), NONE, (), 2), ((0xEB,), NONE, (), 1), ((0x9B,), NONE, (), 0)]
+
+# the digits that a first byte has, by all of its forms; 8C takes no segment register above 3, and 8E never CS
+DIGITS = {c: {n for firsts, _, digits, _ in FORMS if c in firsts for n in digits} for c in range(256)} | {0x8C: range(4), 0x8E: (0, 2, 3)}
+# memory only
+NO_MODE_3 = [(c, n) for c in (0x8D, 0xC4, 0xC5) for n in range(8)] + [(0xFF, 3)]
 
 def operand(text, override):
     """kind, number or base, value low, value high, segment; and the width that the operand shows"""
     t = text.strip()
     width = 0
-    for word, w in (('byte ', 1), ('word ', 2), ('short ', 0), ('near ', 0)):
+    for word, w in (('byte ', 1), ('word ', 2), ('short ', 0), ('near ', 0), ('far ', 0)):
         if t.startswith(word): t, width = t[len(word):], w
     if t in BYTES: return (1, BYTES.index(t), 0, 0, 0), 1
     if t in WORDS: return (1, WORDS.index(t), 0, 0, 0), 2
@@ -78,7 +87,7 @@ def disassembled(string):
     ops = [o for o, w in found]
     if operation[0] == 'J' or operation in ('CALL', 'LOOP', 'LOOPZ', 'LOOPNZ'):
         if ops[0][0] == 4: ops[0], width = (5,) + ops[0][1:], 0
-        elif ops[0][0] == 6: width = 0
+        elif ops[0][0] == 6 or rest.startswith('far '): width = 0
         else: width = 2
     if operation in ('ROL', 'ROR', 'RCL', 'RCR', 'SHL', 'SHR', 'SAR'):
         width = found[0][1]
@@ -91,11 +100,15 @@ def disassembled(string):
     if operation == 'XCHG':
         ops.sort(key=lambda o: (o[0] != 1, o[1]))
         if width == 2 and ops[0] == ops[1] == (1, 0, 0, 0, 0): operation, ops, width = 'NOP', [], 0
+    if operation == 'TEST' and [o[0] for o in ops] == [3, 1]: ops.reverse()
     ops += [(0, 0, 0, 0, 0)] * (2 - len(ops))
     return len(code) // 2, OPERATIONS.index(operation), width, ops
 
+ROWS = {}
+
 def row(string, expected):
-    print((bytes(string) + bytes(8 - len(string)) + bytes([len(string)]) + bytes(expected)).hex().upper())
+    """Each string once."""
+    assert ROWS.setdefault(bytes(string), expected) == expected, string
 
 def refused(string, number): row(string, [number] + [0] * 16)
 
@@ -106,10 +119,9 @@ def whole(string, form):
         length, operation, width, ops = disassembled(string)
     assert length == len(string), string
     row(string, [0, length, operation, width, *form, *ops[0], *ops[1]])
-    # of some: a byte behind it is not looked at; without its last byte it is not complete
-    pick = sum(string)
-    if len(string) < 8 and pick % 4 == 0: row(string + [0x82], [0, length, operation, width, *form, *ops[0], *ops[1]])
-    if len(string) > 1 and pick % 2: refused(string[:-1], 11)
+    # of some, and of each single byte: a byte behind it is not looked at. Without its last byte none is complete
+    if len(string) == 1 or len(string) < 8 and sum(string) % 4 == 0: row(string + [0x82], [0, length, operation, width, *form, *ops[0], *ops[1]])
+    if len(string) > 1: refused(string[:-1], 11)
 
 def values(n, seed): return [(0x85 + 0x37 * (seed + i)) % 256 for i in range(n)]
 
@@ -128,30 +140,38 @@ def main():
                 whole([c, 0x0A], form + [0])
                 for x in (0x00, 0x0B, 0xA0): refused([c, x], 10)
             else:
-                used = digits if extension == DIGIT else range(8)
-                if c == 0x8C: used = range(4)
-                if c == 0x8E: used = (0, 2, 3)
                 for n in range(8):
-                    if n not in used:
-                        refused([c, 64 * (n % 4) + 8 * n + 1, 0, 0, 0, 0], 10)
+                    if n not in (DIGITS[c] or range(8)):
+                        for mode in range(4): refused([c, 64 * mode + 8 * n + 1, 0, 0, 0, 0], 10)
                         continue
+                    if extension == DIGIT and n not in digits: continue
                     if extension == SLASH_R and c not in (0x8C, 0x8E) and n not in (c % 8, 3): continue
                     for mode in range(4):
                         for rm in (range(8) if c == 0x8B and n == 3 else {(c + n + 2 * mode) % 8, 6 if mode == n % 4 else 3}):
                             x = 64 * mode + 8 * n + rm
                             displacement = [2 if rm == 6 else 0, 1, 2, 0][mode]
                             string = [c, x] + values(displacement + immediate, c + x)
-                            if mode == 3 and c in (0x8D, 0xC4, 0xC5): refused(string, 10); continue
+                            if mode == 3 and (c, n) in NO_MODE_3: refused(string, 10); continue
                             whole(string, form + [n if extension == DIGIT else 0])
                             count += 1
                             p = (0x26, 0x2E, 0x36, 0x3E)[count % 4]
-                            if mode == 3 and n % 2: refused([p] + string, 10)
+                            if mode == 3: refused([p] + string, 10)
                             elif mode < 3 and rm == 6: whole([p] + string, form + [n if extension == DIGIT else 0])
-    # first bytes that document 01's table does not have, and no bytes
-    for c in [0x0F, *range(0x60, 0x70), 0x82, 0x84, 0x85, 0x8F, 0x9A, 0x9B, 0xA9, 0xC0, 0xC1, 0xC2, 0xC8, 0xC9, 0xCA, 0xCB, *range(0xD8, 0xE0), 0xEB, 0xF1]: refused([c], 10)
+    # the limits of RET's word, of TEST's and of a short distance
+    for c in (0xA9, 0xC2):
+        for x in (0, 255): whole([c, x, x], [c, NONE, 0])
+    for x in (0x00, 0x7F, 0x80, 0xFE): whole([0xEB, x], [0xEB, NONE, 0])
+    # a prefix and a first byte: memory may follow, or not
+    for c in (0x84, 0x85, 0x8F, 0xF6, 0xF7, 0xFF): refused([0x26, c], 11)
+    for c in (0x9B, 0xA9, 0xC2, 0xEB): refused([0x26, c], 10)
+    refused([0x26, 0xFF, 0xDF], 10)
+    # first bytes that the table does not have, and no bytes
+    for c in [0x0F, *range(0x60, 0x70), 0x82, 0x9A, 0xC0, 0xC1, 0xC8, 0xC9, 0xCA, 0xCB, *range(0xD8, 0xE0), 0xF1]: refused([c], 10)
     for p in (0x26, 0x2E, 0x36, 0x3E):
         refused([p], 11)
         refused([p, p], 10)
     refused([], 11)
+    for string, expected in ROWS.items():
+        print((string.ljust(8, b'\0') + bytes([len(string), *expected])).hex().upper())
 
 main()

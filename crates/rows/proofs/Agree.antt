@@ -12,18 +12,18 @@ use lib.ListN.{getD}
 use borrow.Author.Tests.{ltb-true, ltb-false}
 use Rattle.mrc_compiler.specs.declared.operations.Operation.{Operation}
 use Rattle.mrc_compiler.specs.declared.operations.Operation.the-variants as Op
-use Rattle.mrc_compiler.specs.Choose.{pick}
+use Rattle.mrc_compiler.specs.Choose.{pick, both}
 use Rattle.mrc_compiler.specs.declared.operations.OptionOperation.{OptionOperation}
 use Rattle.mrc_compiler.specs.declared.operations.OptionOperation.the-variants as N
 use Rattle.mrc_compiler.specs.Operations.{numberOf, operations, sameOperation}
 use Rattle.forms.specs.declared.FormName.{FormName}
 use Rattle.x86.specs.Forms.{Slot, Form, forms}
-use Rattle.x86.specs.Reading.{digit, some, startingWith, fitting, hasSecond, mayNameMemory}
-use Rattle.x86.specs.Rows.{Class, Shape, asRead, rows, shapeNumbered}
+use Rattle.x86.specs.Reading.{digit, about, some, startingWith, fitting, hasSecond, mayNameMemory}
+use Rattle.x86.specs.Rows.{Class, Shape, asRead, rows, shapeNumbered, byDigit}
 use Rattle.x86.specs.Rows as K
 use Rattle.x86.proofs.Rows.{empty}
-use Rattle.x86.proofs.Tests.{same, same-is, upTo, upTo-at}
-use Rattle.rows.specs.Rows.{nameOf, operationAt, digitsOf, foundOf, slotsFit, foundAt, exchanges, extensionAt, anyForm, formAt}
+use Rattle.x86.proofs.Tests.{both-left, both-right, same, same-is, upTo, upTo-at}
+use Rattle.rows.specs.Rows.{nameOf, operationAt, digitsOf, foundOf, slotsFit, foundAt, exchanges, testsRegister, extensionAt, anyForm, formAt}
 
 -- what is said of a first and a second byte: no form, or its operation, its name, whether it has a second byte, its slots as they read
 pub data Said : Type 0 where
@@ -52,10 +52,10 @@ table-at : {A : Type 0} (n : ℕ) (g h : ℕ → A) → table n g ≡ table n h 
 table-at zero g h e k l = absurd (not-suc-le-zero l)
 table-at (suc n) g h e k l = ⊎-elim (λ z. rw z (cc)) (λ l. table-at n g h (cc) k l) (eq-or-lt-of-le (le-of-suc-le-suc l))
 
--- of each second byte, where there is one
-abbrev saidEach : Shape → ℕ → Bool → List Said
-saidEach s c true = table 256 (said s c)
-saidEach s c false = said s c 0 ∷ []
+-- of each second byte, where there is one; s x is the shape with second byte x
+abbrev saidEach : (ℕ → Shape) → ℕ → Bool → List Said
+saidEach s c true = table 256 (λ x. said (s x) c x)
+saidEach s c false = said (s 0) c 0 ∷ []
 
 abbrev seenEach : List Form → Bool → List Said
 seenEach fs true = table 256 (λ x. seen (fitting x fs))
@@ -68,13 +68,13 @@ pub record Row : Type 0 where
   pub second : Bool
   pub each : List Said
 
-abbrev saidOf : ℕ → Shape → ℕ → Row
+abbrev saidOf : ℕ → (ℕ → Shape) → ℕ → Row
 saidOf n s c =
     record {
       unused = eqb n 0;
-      memory = mayNameMemory (anyForm s);
-      second = hasSecond (extensionAt (s .class));
-      each = saidEach s c (hasSecond (extensionAt (s .class)));
+      memory = mayNameMemory (anyForm (s 0));
+      second = hasSecond (extensionAt (s 0 .class));
+      each = saidEach s c (hasSecond (extensionAt (s 0 .class)));
     }
 
 abbrev seenOf : List Form → Row
@@ -86,9 +86,9 @@ seenOf fs =
       each = seenEach fs (some (λ f. hasSecond (f .extension)) fs);
     }
 
--- the shape of first byte c
-abbrev pub shapeOf : ℕ → Shape
-shapeOf c = shapeNumbered (getD rows c 0)
+-- the shape of first byte c and second byte x
+abbrev pub shapeOf : ℕ → ℕ → Shape
+shapeOf c x = shapeNumbered (byDigit (getD rows c 0) (digit x))
 
 abbrev saidRow : ℕ → Row
 saidRow c = saidOf (getD rows c 0) (shapeOf c) c
@@ -129,30 +129,30 @@ row-agrees c h = go (ltb c 64) (ltb c 128) (ltb c 192) refl refl refl
 
 -- ---- the rules
 -- of a first byte, with the forms that begin with it
-pub record Agrees (c : ℕ) (n : ℕ) (s : Shape) (fs : List Form) : Type 0 where
+pub record Agrees (c : ℕ) (n : ℕ) (s : ℕ → Shape) (fs : List Form) : Type 0 where
   pub unused : eqb n 0 ≡ empty fs
-  pub memory : mayNameMemory (anyForm s) ≡ some mayNameMemory fs
-  pub second : hasSecond (extensionAt (s .class)) ≡ some (λ f. hasSecond (f .extension)) fs
-  pub with-second : (x : ℕ) → x < 256 → some (λ f. hasSecond (f .extension)) fs ≡ true → said s c x ≡ seen (fitting x fs)
-  pub without : some (λ f. hasSecond (f .extension)) fs ≡ false → said s c 0 ≡ seen fs
+  pub memory : mayNameMemory (anyForm (s 0)) ≡ some mayNameMemory fs
+  pub second : hasSecond (extensionAt (s 0 .class)) ≡ some (λ f. hasSecond (f .extension)) fs
+  pub with-second : (x : ℕ) → x < 256 → some (λ f. hasSecond (f .extension)) fs ≡ true → said (s x) c x ≡ seen (fitting x fs)
+  pub without : some (λ f. hasSecond (f .extension)) fs ≡ false → said (s 0) c 0 ≡ seen fs
 
-agreed : (c n : ℕ) (s : Shape) (fs : List Form) → saidOf n s c ≡ seenOf fs → Agrees c n s fs
+agreed : (c n : ℕ) (s : ℕ → Shape) (fs : List Form) → saidOf n s c ≡ seenOf fs → Agrees c n s fs
 agreed c n s fs e =
     record {
       unused = ap (λ (r : Row). r .unused) e;
       memory = ap (λ (r : Row). r .memory) e;
       second = ap (λ (r : Row). r .second) e;
-      with-second = λ x h z. table-at 256 (said s c) (λ x. seen (fitting x fs)) (one-true (hasSecond (extensionAt (s .class))) (some (λ f. hasSecond (f .extension)) fs) (ap (λ (r : Row). r .second) e) z (ap (λ (r : Row). r .each) e)) x h;
-      without = λ z. one-false (hasSecond (extensionAt (s .class))) (some (λ f. hasSecond (f .extension)) fs) (ap (λ (r : Row). r .second) e) z (ap (λ (r : Row). r .each) e);
+      with-second = λ x h z. table-at 256 (λ x. said (s x) c x) (λ x. seen (fitting x fs)) (one-true (hasSecond (extensionAt (s 0 .class))) (some (λ f. hasSecond (f .extension)) fs) (ap (λ (r : Row). r .second) e) z (ap (λ (r : Row). r .each) e)) x h;
+      without = λ z. one-false (hasSecond (extensionAt (s 0 .class))) (some (λ f. hasSecond (f .extension)) fs) (ap (λ (r : Row). r .second) e) z (ap (λ (r : Row). r .each) e);
     }
   where
-    one-true : (a b : Bool) → a ≡ b → b ≡ true → saidEach s c a ≡ seenEach fs b → table 256 (said s c) ≡ table 256 (λ x. seen (fitting x fs))
+    one-true : (a b : Bool) → a ≡ b → b ≡ true → saidEach s c a ≡ seenEach fs b → table 256 (λ x. said (s x) c x) ≡ table 256 (λ x. seen (fitting x fs))
     one-true true true p q e = e
     one-true true false p q e = cc
     one-true false true p q e = cc
     one-true false false p q e = cc
 
-    one-false : (a b : Bool) → a ≡ b → b ≡ false → saidEach s c a ≡ seenEach fs b → said s c 0 ≡ seen fs
+    one-false : (a b : Bool) → a ≡ b → b ≡ false → saidEach s c a ≡ seenEach fs b → said (s 0) c 0 ≡ seen fs
     one-false true true p q e = cc
     one-false true false p q e = cc
     one-false false true p q e = cc
@@ -162,45 +162,60 @@ agreed c n s fs e =
 pub agrees : (c : ℕ) → c < 256 → Agrees c (getD rows c 0) (shapeOf c) (startingWith c)
 agrees c h = agreed c (getD rows c 0) (shapeOf c) (startingWith c) (row-agrees c h)
 
--- ---- XCHG by its first bytes
-abbrev foundOk : ℕ → OptionOperation → Bool
-foundOk c N.None = true
-foundOk c (N.Some op) = same (sameOperation op Op.XCHG) (exchanges c)
+-- ---- XCHG by its first bytes, and TEST without an immediate
+abbrev foundOk : ℕ → Slot → OptionOperation → Bool
+foundOk c b N.None = true
+foundOk c b (N.Some op) =
+    both (same (sameOperation op Op.XCHG) (exchanges c)) (same (both (sameOperation op Op.TEST) (eqb (about b .takes) 0)) (testsRegister c))
 
-abbrev classOk : ℕ → Class → Bool
-classOk c K.unused = true
-classOk c K.plain = foundOk c (operationAt c)
-classOk c K.plus-register = foundOk c (operationAt c)
-classOk c K.plus-segment = foundOk c (operationAt c)
-classOk c K.modrm = foundOk c (operationAt c)
-classOk c K.modrm-digit = upTo 8 (λ d. foundOk c (operationAt (digitsOf c + d)))
-classOk c K.second-0A = foundOk c (operationAt c)
+-- with digit d; b is the second slot
+abbrev classOk : ℕ → ℕ → Slot → Class → Bool
+classOk c d b K.unused = true
+classOk c d b K.plain = foundOk c b (operationAt c)
+classOk c d b K.plus-register = foundOk c b (operationAt c)
+classOk c d b K.plus-segment = foundOk c b (operationAt c)
+classOk c d b K.modrm = foundOk c b (operationAt c)
+classOk c d b K.modrm-digit = foundOk c b (operationAt (digitsOf c + d))
+classOk c d b K.second-0A = foundOk c b (operationAt c)
 
-classes-ok : T (upTo 256 (λ c. classOk c (shapeOf c .class)))
+abbrev rowOk : ℕ → ℕ → Bool
+rowOk c d = let s = shapeNumbered (byDigit (getD rows c 0) d) in classOk c d (s .second) (s .class)
+
+rows-ok : T (upTo 256 (λ c. upTo 8 (rowOk c)))
 unfolding numberOf operations
-classes-ok = tt
+rows-ok = tt
 
-found-ok : (k : Class) (c x : ℕ) → T (classOk c k) → T (foundOk c (foundOf k c x))
+found-ok : (k : Class) (b : Slot) (c x : ℕ) → T (classOk c (digit x) b k) → T (foundOk c b (foundOf k c x))
 unfolding operations
-found-ok K.unused c x t = tt
-found-ok K.plain c x t = t
-found-ok K.plus-register c x t = t
-found-ok K.plus-segment c x t = t
-found-ok K.modrm c x t = t
-found-ok K.modrm-digit c x t = upTo-at 8 (λ d. foundOk c (operationAt (digitsOf c + d))) t (digit x) (omega arith)
-found-ok K.second-0A c x t = go (eqb x 0x0A)
+found-ok K.unused b c x t = tt
+found-ok K.plain b c x t = t
+found-ok K.plus-register b c x t = t
+found-ok K.plus-segment b c x t = t
+found-ok K.modrm b c x t = t
+found-ok K.modrm-digit b c x t = t
+found-ok K.second-0A b c x t = go (eqb x 0x0A)
   where
-    go : (b : Bool) → T (foundOk c (operationAt (pick b c 304)))
+    go : (q : Bool) → T (foundOk c b (operationAt (pick q c 312)))
     go true = t
     go false = tt
 
--- the operation found is XCHG just where the first byte is one of XCHG's
-pub settles : (c x : ℕ) (op : Operation) → c < 256 → foundAt (shapeOf c) c x ≡ N.Some op → sameOperation op Op.XCHG ≡ exchanges c
+found-at : (c x : ℕ) (op : Operation) → c < 256 → foundAt (shapeOf c x) c x ≡ N.Some op → T (foundOk c (shapeOf c x .second) (N.Some op))
 unfolding foundAt
-settles c x op h e =
-    let t : T (foundOk c (N.Some op)) = rw e at (go (slotsFit (shapeOf c) x)) in
-    same-is (sameOperation op Op.XCHG) (exchanges c) t
+found-at c x op h e = rw e at (go (slotsFit (shapeOf c x) x))
   where
-    go : (b : Bool) → T (foundOk c (pick b (foundOf (shapeOf c .class) c x) N.None))
-    go true = found-ok (shapeOf c .class) c x (upTo-at 256 (λ c. classOk c (shapeOf c .class)) classes-ok c h)
+    go : (q : Bool) → T (foundOk c (shapeOf c x .second) (pick q (foundOf (shapeOf c x .class) c x) N.None))
+    go true = found-ok (shapeOf c x .class) (shapeOf c x .second) c x (upTo-at 8 (rowOk c) (upTo-at 256 (λ c. upTo 8 (rowOk c)) rows-ok c h) (digit x) (omega arith))
     go false = tt
+
+-- the operation found is XCHG just where the first byte is one of XCHG's
+pub settles : (c x : ℕ) (op : Operation) → c < 256 → foundAt (shapeOf c x) c x ≡ N.Some op → sameOperation op Op.XCHG ≡ exchanges c
+settles c x op h e =
+    same-is (sameOperation op Op.XCHG) (exchanges c)
+    (both-left (same (sameOperation op Op.XCHG) (exchanges c)) (same (both (sameOperation op Op.TEST) (eqb (about (shapeOf c x .second) .takes) 0)) (testsRegister c)) (found-at c x op h e))
+
+-- it is TEST without an immediate just where the first byte is 84 or 85
+pub tests : (c x : ℕ) (op : Operation) → c < 256 → foundAt (shapeOf c x) c x ≡ N.Some op
+    → both (sameOperation op Op.TEST) (eqb (about (shapeOf c x .second) .takes) 0) ≡ testsRegister c
+tests c x op h e =
+    same-is (both (sameOperation op Op.TEST) (eqb (about (shapeOf c x .second) .takes) 0)) (testsRegister c)
+    (both-right (same (sameOperation op Op.XCHG) (exchanges c)) (same (both (sameOperation op Op.TEST) (eqb (about (shapeOf c x .second) .takes) 0)) (testsRegister c)) (found-at c x op h e))

@@ -32,7 +32,7 @@ abbrev pub noForm : FormName
 noForm = named 0 F.no
 
 -- ---- the operation
--- numbers of operations by lines: a line for each first byte, then eight for the digits of 80, 81 and 83; C6 and C7; D0 to D3; F6 and F7; FE; FF. 99, which is
+-- numbers of operations by lines: a line for each first byte, then eight for the digits of 80, 81 and 83; 8F; C6 and C7; D0 to D3; F6 and F7; FE; FF. 99, which is
 -- none's, where no form begins, and for a first byte whose digit decides
 abbrev pub operationNumbers : List ℕ
 operationNumbers =
@@ -44,21 +44,22 @@ operationNumbers =
     ∷ 1 ∷ 1 ∷ 1 ∷ 1 ∷ 1 ∷ 1 ∷ 1 ∷ 1 ∷ 2 ∷ 2 ∷ 2 ∷ 2 ∷ 2 ∷ 2 ∷ 2 ∷ 2
     ∷ 99 ∷ 99 ∷ 99 ∷ 99 ∷ 99 ∷ 99 ∷ 99 ∷ 99 ∷ 99 ∷ 99 ∷ 99 ∷ 99 ∷ 99 ∷ 99 ∷ 99 ∷ 99
     ∷ 67 ∷ 75 ∷ 64 ∷ 72 ∷ 61 ∷ 69 ∷ 65 ∷ 73 ∷ 68 ∷ 76 ∷ 66 ∷ 74 ∷ 62 ∷ 70 ∷ 63 ∷ 71
-    ∷ 99 ∷ 99 ∷ 99 ∷ 99 ∷ 99 ∷ 99 ∷ 3 ∷ 3 ∷ 0 ∷ 0 ∷ 0 ∷ 0 ∷ 0 ∷ 7 ∷ 0 ∷ 99
-    ∷ 3 ∷ 3 ∷ 3 ∷ 3 ∷ 3 ∷ 3 ∷ 3 ∷ 3 ∷ 32 ∷ 33 ∷ 99 ∷ 99 ∷ 12 ∷ 13 ∷ 11 ∷ 10
-    ∷ 0 ∷ 0 ∷ 0 ∷ 0 ∷ 48 ∷ 49 ∷ 50 ∷ 51 ∷ 43 ∷ 99 ∷ 56 ∷ 57 ∷ 54 ∷ 55 ∷ 52 ∷ 53
+    ∷ 99 ∷ 99 ∷ 99 ∷ 99 ∷ 43 ∷ 43 ∷ 3 ∷ 3 ∷ 0 ∷ 0 ∷ 0 ∷ 0 ∷ 0 ∷ 7 ∷ 0 ∷ 99
+    ∷ 3 ∷ 3 ∷ 3 ∷ 3 ∷ 3 ∷ 3 ∷ 3 ∷ 3 ∷ 32 ∷ 33 ∷ 99 ∷ 94 ∷ 12 ∷ 13 ∷ 11 ∷ 10
+    ∷ 0 ∷ 0 ∷ 0 ∷ 0 ∷ 48 ∷ 49 ∷ 50 ∷ 51 ∷ 43 ∷ 43 ∷ 56 ∷ 57 ∷ 54 ∷ 55 ∷ 52 ∷ 53
     ∷ 0 ∷ 0 ∷ 0 ∷ 0 ∷ 0 ∷ 0 ∷ 0 ∷ 0 ∷ 0 ∷ 0 ∷ 0 ∷ 0 ∷ 0 ∷ 0 ∷ 0 ∷ 0
-    ∷ 99 ∷ 99 ∷ 99 ∷ 60 ∷ 9 ∷ 8 ∷ 99 ∷ 99 ∷ 99 ∷ 99 ∷ 99 ∷ 99 ∷ 83 ∷ 81 ∷ 84 ∷ 85
+    ∷ 99 ∷ 99 ∷ 60 ∷ 60 ∷ 9 ∷ 8 ∷ 99 ∷ 99 ∷ 99 ∷ 99 ∷ 99 ∷ 99 ∷ 83 ∷ 81 ∷ 84 ∷ 85
     ∷ 99 ∷ 99 ∷ 99 ∷ 99 ∷ 28 ∷ 31 ∷ 98 ∷ 6 ∷ 99 ∷ 99 ∷ 99 ∷ 99 ∷ 99 ∷ 99 ∷ 99 ∷ 99
-    ∷ 79 ∷ 78 ∷ 77 ∷ 80 ∷ 4 ∷ 4 ∷ 5 ∷ 5 ∷ 58 ∷ 59 ∷ 59 ∷ 99 ∷ 4 ∷ 4 ∷ 5 ∷ 5
+    ∷ 79 ∷ 78 ∷ 77 ∷ 80 ∷ 4 ∷ 4 ∷ 5 ∷ 5 ∷ 58 ∷ 59 ∷ 59 ∷ 59 ∷ 4 ∷ 4 ∷ 5 ∷ 5
     ∷ 96 ∷ 99 ∷ 47 ∷ 46 ∷ 93 ∷ 87 ∷ 99 ∷ 99 ∷ 86 ∷ 88 ∷ 91 ∷ 92 ∷ 89 ∷ 90 ∷ 99 ∷ 99
     -- digits
     ∷ 14 ∷ 44 ∷ 15 ∷ 20 ∷ 42 ∷ 19 ∷ 45 ∷ 23
+    ∷ 2 ∷ 99 ∷ 99 ∷ 99 ∷ 99 ∷ 99 ∷ 99 ∷ 99
     ∷ 0 ∷ 99 ∷ 99 ∷ 99 ∷ 99 ∷ 99 ∷ 99 ∷ 99
     ∷ 38 ∷ 39 ∷ 40 ∷ 41 ∷ 35 ∷ 36 ∷ 99 ∷ 37
-    ∷ 99 ∷ 99 ∷ 34 ∷ 22 ∷ 26 ∷ 27 ∷ 29 ∷ 30
+    ∷ 43 ∷ 99 ∷ 34 ∷ 22 ∷ 26 ∷ 27 ∷ 29 ∷ 30
     ∷ 16 ∷ 21 ∷ 99 ∷ 99 ∷ 99 ∷ 99 ∷ 99 ∷ 99
-    ∷ 16 ∷ 21 ∷ 58 ∷ 99 ∷ 59 ∷ 99 ∷ 99 ∷ 99
+    ∷ 16 ∷ 21 ∷ 58 ∷ 58 ∷ 59 ∷ 99 ∷ 1 ∷ 99
     -- the line of none
     ∷ 99 ∷ []
 
@@ -67,17 +68,18 @@ operationAt n = operationNumbered (getD operationNumbers n 0)
 
 -- the first line of the digits of a first byte whose digit decides
 abbrev pub digitsOf : ℕ → ℕ
-digitsOf c = pick (ltb c 0xC0) 256 (pick (ltb c 0xD0) 264 (pick (ltb c 0xF0) 272 (pick (ltb c 0xFE) 280 (pick (eqb c 0xFE) 288 296))))
+digitsOf c =
+    pick (ltb c 0x84) 256 (pick (ltb c 0xC0) 264 (pick (ltb c 0xD0) 272 (pick (ltb c 0xF0) 280 (pick (ltb c 0xFE) 288 (pick (eqb c 0xFE) 296 304)))))
 
--- the line of first byte c and second byte x; 304, the last, where they have no operation
+-- the line of first byte c and second byte x; 312, the last, where they have no operation
 abbrev pub lineOf : Class → ℕ → ℕ → ℕ
-lineOf K.unused c x = 304
+lineOf K.unused c x = 312
 lineOf K.plain c x = c
 lineOf K.plus-register c x = c
 lineOf K.plus-segment c x = c
 lineOf K.modrm c x = c
 lineOf K.modrm-digit c x = digitsOf c + digit x
-lineOf K.second-0A c x = pick (eqb x 0x0A) c 304
+lineOf K.second-0A c x = pick (eqb x 0x0A) c 312
 
 abbrev pub foundOf : Class → ℕ → ℕ → OptionOperation
 foundOf k c x = operationAt (lineOf k c x)
@@ -92,6 +94,10 @@ foundAt s c x = pick (slotsFit s x) (foundOf (s .class) c x) N.None
 -- 86, 87 and 90 to 97 are XCHG's
 abbrev pub exchanges : ℕ → Bool
 exchanges c = either (eqb (c / 2) 0x43) (eqb (c / 8) 0x12)
+
+-- 84 and 85 are TEST's of a register
+abbrev pub testsRegister : ℕ → Bool
+testsRegister c = eqb (c / 2) 0x42
 
 -- ---- the form
 abbrev pub extensionAt : Class → Extension

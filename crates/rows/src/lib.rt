@@ -4,9 +4,9 @@ ghost use Prim.Native.Nat.{_≤_};
 ghost use lib.ListN.{getD};
 ghost use Rattle.mrc_compiler.specs.Choose.{pick, both};
 ghost use Rattle.mrc_compiler.specs.declared.operations.OptionOperation.the-variants as N;
-ghost use Rattle.x86.specs.Reading.{onlyFits, hasSecond};
-ghost use Rattle.x86.specs.Rows.{rows};
-ghost use Rattle.rows.specs.Rows.{digitsOf, lineOf, operationAt, foundOf, exchanges, extensionAt, formAt};
+ghost use Rattle.x86.specs.Reading.{digit, onlyFits, hasSecond};
+ghost use Rattle.x86.specs.Rows.{rows, byDigit};
+ghost use Rattle.rows.specs.Rows.{digitsOf, lineOf, operationAt, foundOf, exchanges, testsRegister, extensionAt, formAt};
 use forms::Class;
 use forms::Extension;
 use forms::FormName;
@@ -148,8 +148,8 @@ const ROWS: [u8; 256] = [
     13, // 81
     0, // 82
     14, // 83
-    0, // 84
-    0, // 85
+    1, // 84
+    2, // 85
     3, // 86
     4, // 87
     1, // 88
@@ -159,7 +159,7 @@ const ROWS: [u8; 256] = [
     15, // 8C
     16, // 8D
     17, // 8E
-    0, // 8F
+    42, // 8F
     18, // 90
     18, // 91
     18, // 92
@@ -171,7 +171,7 @@ const ROWS: [u8; 256] = [
     9, // 98
     9, // 99
     0, // 9A
-    0, // 9B
+    9, // 9B
     9, // 9C
     9, // 9D
     9, // 9E
@@ -185,7 +185,7 @@ const ROWS: [u8; 256] = [
     9, // A6
     9, // A7
     5, // A8
-    0, // A9
+    6, // A9
     9, // AA
     9, // AB
     9, // AC
@@ -210,7 +210,7 @@ const ROWS: [u8; 256] = [
     24, // BF
     0, // C0
     0, // C1
-    0, // C2
+    44, // C2
     9, // C3
     16, // C4
     16, // C5
@@ -251,7 +251,7 @@ const ROWS: [u8; 256] = [
     35, // E8
     35, // E9
     36, // EA
-    0, // EB
+    11, // EB
     37, // EC
     38, // ED
     39, // EE
@@ -262,8 +262,8 @@ const ROWS: [u8; 256] = [
     9, // F3
     9, // F4
     9, // F5
-    41, // F6
-    42, // F7
+    45, // F6
+    46, // F7
     9, // F8
     9, // F9
     9, // FA
@@ -271,12 +271,12 @@ const ROWS: [u8; 256] = [
     9, // FC
     9, // FD
     41, // FE
-    42, // FF
+    47, // FF
 ];
 
-// The numbers of operations by lines: 0 to 255 by first byte, then eight lines for the digits of 80, 81 and 83; C6 and C7; D0 to D3; F6 and F7; FE; FF; then the
+// The numbers of operations by lines: 0 to 255 by first byte, then eight lines for the digits of 80, 81 and 83; 8F; C6 and C7; D0 to D3; F6 and F7; FE; FF; then the
 // line of none. 99, which is no operation's, where no form begins, and in the first 256 where the digit decides.
-const OPERATIONS: [u8; 305] = [
+const OPERATIONS: [u8; 313] = [
     14, // 00 ADD
     14, // 01 ADD
     14, // 02 ADD
@@ -409,8 +409,8 @@ const OPERATIONS: [u8; 305] = [
     99, // 81
     99, // 82
     99, // 83
-    99, // 84
-    99, // 85
+    43, // 84 TEST
+    43, // 85 TEST
     3, // 86 XCHG
     3, // 87 XCHG
     0, // 88 MOV
@@ -432,7 +432,7 @@ const OPERATIONS: [u8; 305] = [
     32, // 98 CBW
     33, // 99 CWD
     99, // 9A
-    99, // 9B
+    94, // 9B WAIT
     12, // 9C PUSHF
     13, // 9D POPF
     11, // 9E SAHF
@@ -446,7 +446,7 @@ const OPERATIONS: [u8; 305] = [
     50, // A6 CMPSB
     51, // A7 CMPSW
     43, // A8 TEST
-    99, // A9
+    43, // A9 TEST
     56, // AA STOSB
     57, // AB STOSW
     54, // AC LODSB
@@ -471,7 +471,7 @@ const OPERATIONS: [u8; 305] = [
     0, // BF MOV
     99, // C0
     99, // C1
-    99, // C2
+    60, // C2 RET
     60, // C3 RET
     9, // C4 LES
     8, // C5 LDS
@@ -512,7 +512,7 @@ const OPERATIONS: [u8; 305] = [
     58, // E8 CALL
     59, // E9 JMP
     59, // EA JMP
-    99, // EB
+    59, // EB JMP
     4, // EC IN
     4, // ED IN
     5, // EE OUT
@@ -541,6 +541,14 @@ const OPERATIONS: [u8; 305] = [
     19, // 80 /5 SUB
     45, // 80 /6 XOR
     23, // 80 /7 CMP
+    2, // 8F /0 POP
+    99, // 8F /1
+    99, // 8F /2
+    99, // 8F /3
+    99, // 8F /4
+    99, // 8F /5
+    99, // 8F /6
+    99, // 8F /7
     0, // C6 /0 MOV
     99, // C6 /1
     99, // C6 /2
@@ -557,7 +565,7 @@ const OPERATIONS: [u8; 305] = [
     36, // D0 /5 SHR
     99, // D0 /6
     37, // D0 /7 SAR
-    99, // F6 /0
+    43, // F6 /0 TEST
     99, // F6 /1
     34, // F6 /2 NOT
     22, // F6 /3 NEG
@@ -576,10 +584,10 @@ const OPERATIONS: [u8; 305] = [
     16, // FF /0 INC
     21, // FF /1 DEC
     58, // FF /2 CALL
-    99, // FF /3
+    58, // FF /3 CALL
     59, // FF /4 JMP
     99, // FF /5
-    99, // FF /6
+    1, // FF /6 PUSH
     99, // FF /7
     99, // none
 ];
@@ -592,9 +600,22 @@ pub fn row_of(c: u8) -> u8
     ROWS[at]
 }
 
+// The shape of a row, where its first byte is followed by x: in three rows the digit decides.
+pub fn shape_row(row: u8, x: u8) -> u8
+    ensures { λ r. ⌜ r ≡ byDigit row (digit x) ⌝ }
+{
+    let d = x / 8 % 8;
+    match row {
+        45 => if d == 0 { 12 } else { 41 },
+        46 => if d == 0 { 13 } else { 42 },
+        47 => if d == 3 { 43 } else { 42 },
+        _ => row,
+    }
+}
+
 // The operation of a line.
 fn operation_at(line: u16) -> OptionOperation
-    requires { ⌜ line ≤ 304 ⌝ }
+    requires { ⌜ line ≤ 312 ⌝ }
     ensures { λ r. ⌜ r ≡ operationAt line ⌝ }
 {
     let at = line as usize;
@@ -604,30 +625,33 @@ fn operation_at(line: u16) -> OptionOperation
 // The first line of the digits of a first byte whose digit decides.
 fn digits_of(c: u8) -> u16
     ensures { λ r. ⌜ r ≡ digitsOf c ⌝ }
-    ensures last { λ r. ⌜ r ≤ 296 ⌝ }
-{
-    if c < 0xC0 {
-        return 256;
-    }
-    if c < 0xD0 {
-        return 264;
-    }
-    if c < 0xF0 {
-        return 272;
-    }
-    if c < 0xFE {
-        return 280;
-    }
-    if c == 0xFE { 288 } else { 296 }
-}
-
-// The line of first byte c and second byte x in a row of this class; 304, the last, where they have no operation.
-fn line_of(class: Class, c: u8, x: u8) -> u16
-    ensures { λ r. ⌜ r ≡ lineOf class c x ⌝ }
     ensures last { λ r. ⌜ r ≤ 304 ⌝ }
 {
+    if c < 0x84 {
+        return 256;
+    }
+    if c < 0xC0 {
+        return 264;
+    }
+    if c < 0xD0 {
+        return 272;
+    }
+    if c < 0xF0 {
+        return 280;
+    }
+    if c < 0xFE {
+        return 288;
+    }
+    if c == 0xFE { 296 } else { 304 }
+}
+
+// The line of first byte c and second byte x in a row of this class; 312, the last, where they have no operation.
+fn line_of(class: Class, c: u8, x: u8) -> u16
+    ensures { λ r. ⌜ r ≡ lineOf class c x ⌝ }
+    ensures last { λ r. ⌜ r ≤ 312 ⌝ }
+{
     match class {
-        Class::Unused => 304,
+        Class::Unused => 312,
         Class::Plain => c as u16,
         Class::PlusRegister => c as u16,
         Class::PlusSegment => c as u16,
@@ -637,7 +661,7 @@ fn line_of(class: Class, c: u8, x: u8) -> u16
             if x == 0x0A {
                 return c as u16;
             }
-            304
+            312
         }
     }
 }
@@ -728,4 +752,11 @@ pub fn is_exchange(c: u8) -> bool
         return true;
     }
     c / 8 == 0x12
+}
+
+// Is it one of TEST's of a register?
+pub fn tests_register(c: u8) -> bool
+    ensures { λ r. ⌜ r ≡ testsRegister c ⌝ }
+{
+    c / 2 == 0x42
 }

@@ -226,6 +226,16 @@ pub fn shape_of(row: u8) -> Shape
             first: Slot::Rm(OperandSize::Word),
             second: Slot::Nil,
         },
+        43 => Shape {
+            class: Class::Digit,
+            first: Slot::Mem,
+            second: Slot::Nil,
+        },
+        44 => Shape {
+            class: Class::Plain,
+            first: Slot::Iw,
+            second: Slot::Nil,
+        },
         _ => Shape {
             class: Class::Unused,
             first: Slot::Nil,

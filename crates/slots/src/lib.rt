@@ -6,7 +6,7 @@ ghost use lib.Dec.{eqb};
 ghost use lib.ListN.{getD};
 ghost use Rattle.mrc_compiler.specs.Choose.{both, bySize};
 ghost use Rattle.mrc_compiler.specs.Operations.{sameOperation};
-ghost use Rattle.mrc_compiler.specs.declared.operations.Operation.the-variants.{XCHG};
+ghost use Rattle.mrc_compiler.specs.declared.operations.Operation.the-variants.{XCHG, TEST};
 ghost use Rattle.x86.specs.declared.Operand.the-variants.{Register, Near};
 ghost use Rattle.x86.specs.Instructions.{defaultSegment, inEffect, base, canonical};
 ghost use Rattle.x86.specs.Reading.{addressLength, onlyFits, inMemory, somewhere, wordAt, signExtended, displacementAt, memoryAt, rmAt, at};
@@ -223,6 +223,7 @@ pub fn operand_at(slot: Slot, prefix: u8, c: u8, x: u8, next: u32, t: &[u8], u: 
         Slot::Rm(_) => rm_at(prefix, x, t),
         Slot::RmNear => rm_at(prefix, x, t),
         Slot::Mem => rm_at(prefix, x, t),
+        Slot::MemFar => rm_at(prefix, x, t),
         Slot::Reg(_) => Operand::Register(x / 8 % 8),
         Slot::Sreg => Operand::SegmentRegister(x / 8 % 8),
         Slot::SregNotCs => Operand::SegmentRegister(x / 8 % 8),
@@ -325,6 +326,40 @@ pub fn exchange(operation: Operation, width: OperandSize, a: Operand, b: Operand
             width,
             first: b,
             second: a,
+        },
+    }
+}
+
+// TEST, in which a register and memory have no first and second: the register stands first. Two registers keep their order.
+pub fn register_first(
+    operation: Operation,
+    width: OperandSize,
+    a: Operand,
+    b: Operand,
+) -> Instruction
+    requires { ⌜ sameOperation operation TEST ≡ true ⌝ }
+    ensures { λ r. ⌜ r ≡ canonical operation width a b ⌝ }
+{
+    match register_in(a) {
+        Number::Is(_) => Instruction {
+            operation,
+            width,
+            first: a,
+            second: b,
+        },
+        Number::None => match register_in(b) {
+            Number::Is(_) => Instruction {
+                operation,
+                width,
+                first: b,
+                second: a,
+            },
+            Number::None => Instruction {
+                operation,
+                width,
+                first: a,
+                second: b,
+            },
         },
     }
 }

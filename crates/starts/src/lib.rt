@@ -2,7 +2,7 @@
 ghost use mathlib.Core.Path.{_≡_};
 ghost use Rattle.listing.specs.declared.Second.the-variants.{Fixed};
 ghost use Rattle.listing.specs.declared.Tail.the-variants.{None};
-ghost use Rattle.listing.specs.Starts.{start, bare, sized, immediate, plus, modrm, withRm, arithmeticImmediate, arithmetic, unary, incDec, moveImmediate, moveFrom, moveInto, move, exchange, stack, load, shift, call, jump, single, port, startIn, startOf};
+ghost use Rattle.listing.specs.Starts.{start, bare, sized, immediate, plus, modrm, withRm, arithmeticImmediate, arithmetic, unary, incDec, moveImmediate, moveFrom, moveInto, move, exchange, testImmediate, test, stack, ret, load, shift, call, jump, single, port, startIn, startOf};
 use groups::Group;
 use listing::Second;
 use listing::Start;
@@ -246,15 +246,67 @@ fn start_exchange(width: OperandSize, a: Outline, b: Outline, way: u8, mode: u8)
     start_with_rm(sized_opcode(width, 0x86, 0x87), n, a, mode, Tail::None)
 }
 
-// PUSH and POP: the opcodes for a register and for a segment register.
-fn start_stack(register: u8, segment: u8, a: Outline) -> Start
-    ensures { λ r. ⌜ r ≡ stack register segment a ⌝ }
+// TEST of an immediate: F6, F7 and the accumulator's form.
+fn test_immediate(width: OperandSize, a: Outline, way: u8, mode: u8) -> Start
+    ensures { λ r. ⌜ r ≡ testImmediate width a way mode ⌝ }
 {
+    if way == 0 {
+        return start_with_rm(
+            sized_opcode(width, 0xF6, 0xF7),
+            0,
+            a,
+            mode,
+            immediate_tail(width),
+        );
+    }
+    bare_start(sized_opcode(width, 0xA8, 0xA9), immediate_tail(width))
+}
+
+// TEST: of two registers the second in reg; memory stands second.
+fn start_test(width: OperandSize, a: Outline, b: Outline, way: u8, mode: u8) -> Start
+    ensures { λ r. ⌜ r ≡ test width a b way mode ⌝ }
+{
+    if b.kind == 4 {
+        return test_immediate(width, a, way, mode);
+    }
+    let m = a.number;
+    let n = b.number;
+    if b.kind == 3 {
+        return start_with_rm(sized_opcode(width, 0x84, 0x85), m, b, mode, Tail::None);
+    }
+    start_with_rm(sized_opcode(width, 0x84, 0x85), n, a, mode, Tail::None)
+}
+
+// PUSH and POP: the opcodes for a register and for a segment register; the one with a digit for a register or memory.
+fn start_stack(
+    register: u8,
+    segment: u8,
+    opcode: u8,
+    digit: u8,
+    a: Outline,
+    way: u8,
+    mode: u8,
+) -> Start
+    ensures { λ r. ⌜ r ≡ stack register segment opcode digit a way mode ⌝ }
+{
+    if way == 0 {
+        return start_with_rm(opcode, digit, a, mode, Tail::None);
+    }
     let n = a.number;
     if a.kind == 1 {
         return bare_start(plus_opcode(register, n % 8), Tail::None);
     }
     bare_start(plus_opcode(segment, n % 4 * 8), Tail::None)
+}
+
+// RET, with an immediate or without.
+fn start_ret(a: Outline) -> Start
+    ensures { λ r. ⌜ r ≡ ret a ⌝ }
+{
+    if a.kind == 4 {
+        return bare_start(0xC2, Tail::Word);
+    }
+    bare_start(0xC3, Tail::None)
 }
 
 // LEA LES LDS.
@@ -275,22 +327,25 @@ fn start_shift(digit: u8, width: OperandSize, a: Outline, b: Outline, mode: u8) 
     start_with_rm(sized_opcode(width, 0xD0, 0xD1), digit, a, mode, Tail::None)
 }
 
-// CALL.
-fn start_call(a: Outline, mode: u8) -> Start
-    ensures { λ r. ⌜ r ≡ call a mode ⌝ }
+// CALL: through memory near at the width of a word, far without a width.
+fn start_call(width: OperandSize, a: Outline, mode: u8) -> Start
+    ensures { λ r. ⌜ r ≡ call width a mode ⌝ }
 {
     if a.kind == 5 {
         return bare_start(0xE8, Tail::Near16);
     }
-    start_with_rm(0xFF, 2, a, mode, Tail::None)
+    start_with_rm(0xFF, sized_opcode(width, 3, 2), a, mode, Tail::None)
 }
 
 // JMP.
-fn start_jump(a: Outline, mode: u8) -> Start
-    ensures { λ r. ⌜ r ≡ jump a mode ⌝ }
+fn start_jump(a: Outline, way: u8, mode: u8) -> Start
+    ensures { λ r. ⌜ r ≡ jump a way mode ⌝ }
 {
     if a.kind == 5 {
-        return bare_start(0xE9, Tail::Near16);
+        if way == 0 {
+            return bare_start(0xE9, Tail::Near16);
+        }
+        return bare_start(0xEB, Tail::Near8);
     }
     if a.kind == 6 {
         return bare_start(0xEA, Tail::Far);
@@ -356,17 +411,17 @@ fn start_in(
         Group::Arithmetic => start_arithmetic(base, width, a, b, way, mode),
         Group::Unary => start_unary(base, width, a, mode),
         Group::Mov => start_move(width, a, b, way, mode),
-        Group::Test => bare_start(0xA8, Tail::Byte),
+        Group::Test => start_test(width, a, b, way, mode),
         Group::Xchg => start_exchange(width, a, b, way, mode),
         Group::IncDec => start_inc_dec(base, width, a, way, mode),
-        Group::Push => start_stack(0x50, 0x06, a),
-        Group::Pop => start_stack(0x58, 0x07, a),
-        Group::Ret => bare_start(0xC3, Tail::None),
+        Group::Push => start_stack(0x50, 0x06, 0xFF, 6, a, way, mode),
+        Group::Pop => start_stack(0x58, 0x07, 0x8F, 0, a, way, mode),
+        Group::Ret => start_ret(a),
         Group::Lea => start_load(base, a, b, mode),
         Group::LesLds => start_load(base, a, b, mode),
         Group::Shift => start_shift(base, width, a, b, mode),
-        Group::Call => start_call(a, mode),
-        Group::Jmp => start_jump(a, mode),
+        Group::Call => start_call(width, a, mode),
+        Group::Jmp => start_jump(a, way, mode),
         Group::Jcc => bare_start(base, Tail::Near8),
         Group::Loopc => bare_start(base, Tail::Near8),
         Group::NoOperands => start_single(base, way),

@@ -32,6 +32,18 @@ pub record Readings (off : ℕ) : Type 0 where
   pub je-end : reads 65534 (0x74 ∷ 0x00 ∷ []) ≡ Whole (instruction Op.JE S.Unspecified (O.Near 0) O.None) 2
   pub jmp-end : reads 65533 (0xE9 ∷ 0x00 ∷ 0x00 ∷ []) ≡ Whole (instruction Op.JMP S.Unspecified (O.Near 0) O.None) 3
   pub mov-al-bp : reads off (0x8A ∷ 0x46 ∷ 0x00 ∷ []) ≡ Whole (instruction Op.MOV S.Byte (O.Register 0) (O.Memory 6 0 G.SS)) 3
+  -- the forms that 000 leaves open
+  pub test-registers : reads off (0x85 ∷ 0xD8 ∷ []) ≡ Whole (instruction Op.TEST S.Word (O.Register 0) (O.Register 3)) 2
+  pub test-memory : reads off (0x84 ∷ 0x0F ∷ []) ≡ Whole (instruction Op.TEST S.Byte (O.Register 1) (O.Memory 7 0 G.DS)) 2
+  pub test-ax : reads off (0xA9 ∷ 0x05 ∷ 0x00 ∷ []) ≡ Whole (instruction Op.TEST S.Word (O.Register 0) (O.Immediate 5)) 3
+  pub test-byte : reads off (0xF6 ∷ 0xC3 ∷ 0x05 ∷ []) ≡ Whole (instruction Op.TEST S.Byte (O.Register 3) (O.Immediate 5)) 3
+  pub test-word : reads off (0xF7 ∷ 0x07 ∷ 0x34 ∷ 0x12 ∷ []) ≡ Whole (instruction Op.TEST S.Word (O.Memory 7 0 G.DS) (O.Immediate 0x1234)) 4
+  pub push-memory : reads off (0xFF ∷ 0x37 ∷ []) ≡ Whole (instruction Op.PUSH S.Word (O.Memory 7 0 G.DS) O.None) 2
+  pub pop-memory : reads off (0x8F ∷ 0x07 ∷ []) ≡ Whole (instruction Op.POP S.Word (O.Memory 7 0 G.DS) O.None) 2
+  pub ret-4 : reads off (0xC2 ∷ 0x04 ∷ 0x00 ∷ []) ≡ Whole (instruction Op.RET S.Unspecified (O.Immediate 4) O.None) 3
+  pub call-far : reads off (0xFF ∷ 0x1F ∷ []) ≡ Whole (instruction Op.CALL S.Unspecified (O.Memory 7 0 G.DS) O.None) 2
+  pub jmp-short : reads 0x100 (0xEB ∷ 0xFE ∷ []) ≡ Whole (instruction Op.JMP S.Unspecified (O.Near 0x100) O.None) 2
+  pub wait : reads off (0x9B ∷ []) ≡ Whole (instruction Op.WAIT S.Unspecified O.None O.None) 1
   -- what the encoder never writes
   pub add-r-rm : reads off (0x03 ∷ 0xC3 ∷ []) ≡ Whole (instruction Op.ADD S.Word (O.Register 0) (O.Register 3)) 2
   pub xchg : reads off (0x87 ∷ 0xC1 ∷ []) ≡ Whole (instruction Op.XCHG S.Word (O.Register 0) (O.Register 1)) 2
@@ -50,7 +62,11 @@ pub record Readings (off : ℕ) : Type 0 where
   -- refusal 10
   pub opcode-82 : reads off (0x82 ∷ []) ≡ Nothing
   pub shift-6 : reads off (0xD0 ∷ 0xF0 ∷ []) ≡ Nothing
-  pub f6-0 : reads off (0xF6 ∷ 0xC0 ∷ []) ≡ Nothing
+  pub f6-1 : reads off (0xF6 ∷ 0xC8 ∷ []) ≡ Nothing
+  pub pop-8f-1 : reads off (0x8F ∷ 0xC8 ∷ []) ≡ Nothing
+  pub jmp-ff-5 : reads off (0xFF ∷ 0x2F ∷ []) ≡ Nothing
+  pub call-far-register : reads off (0xFF ∷ 0xD8 ∷ []) ≡ Nothing
+  pub prefix-call-far-register : reads off (0x26 ∷ 0xFF ∷ 0xD8 ∷ []) ≡ Nothing
   pub f7-1 : reads off (0xF7 ∷ 0xC8 ∷ []) ≡ Nothing
   pub mov-from-segment-4 : reads off (0x8C ∷ 0xE0 ∷ []) ≡ Nothing
   pub mov-to-cs : reads off (0x8E ∷ 0xC8 ∷ []) ≡ Nothing
@@ -62,7 +78,6 @@ pub record Readings (off : ℕ) : Type 0 where
   pub aam-0b : reads off (0xD4 ∷ 0x0B ∷ []) ≡ Nothing
   pub aad-a0 : reads off (0xD5 ∷ 0xA0 ∷ []) ≡ Nothing
   pub fe-2 : reads off (0xFE ∷ 0xD0 ∷ []) ≡ Nothing
-  pub ff-3 : reads off (0xFF ∷ 0xD8 ∷ []) ≡ Nothing
   pub c6-1 : reads off (0xC6 ∷ 0xC8 ∷ []) ≡ Nothing
   pub two-prefixes : reads off (0x26 ∷ 0x26 ∷ 0x8B ∷ 0x07 ∷ []) ≡ Nothing
   pub prefix-prefix : reads off (0x26 ∷ 0x26 ∷ []) ≡ Nothing
@@ -70,6 +85,8 @@ pub record Readings (off : ℕ) : Type 0 where
   pub prefix-before-push : reads off (0x2E ∷ 0x50 ∷ []) ≡ Nothing
   pub prefix-before-aam : reads off (0x36 ∷ 0xD4 ∷ []) ≡ Nothing
   -- refusal 11
+  pub test-f6-short : reads off (0xF6 ∷ 0xC0 ∷ []) ≡ More
+  pub ret-short : reads off (0xC2 ∷ 0x04 ∷ []) ≡ More
   pub prefix-only : reads off (0x26 ∷ []) ≡ More
   pub mov-only : reads off (0x8B ∷ []) ≡ More
   pub mov-displacement : reads off (0x8B ∷ 0x86 ∷ 0x00 ∷ []) ≡ More
@@ -108,6 +125,17 @@ readings off =
       je-end = refl;
       jmp-end = refl;
       mov-al-bp = refl;
+      test-registers = refl;
+      test-memory = refl;
+      test-ax = refl;
+      test-byte = refl;
+      test-word = refl;
+      push-memory = refl;
+      pop-memory = refl;
+      ret-4 = refl;
+      call-far = refl;
+      jmp-short = refl;
+      wait = refl;
       add-r-rm = refl;
       xchg = refl;
       mov-c7 = refl;
@@ -124,7 +152,11 @@ readings off =
       behind = refl;
       opcode-82 = refl;
       shift-6 = refl;
-      f6-0 = refl;
+      f6-1 = refl;
+      pop-8f-1 = refl;
+      jmp-ff-5 = refl;
+      call-far-register = refl;
+      prefix-call-far-register = refl;
       f7-1 = refl;
       mov-from-segment-4 = refl;
       mov-to-cs = refl;
@@ -136,13 +168,14 @@ readings off =
       aam-0b = refl;
       aad-a0 = refl;
       fe-2 = refl;
-      ff-3 = refl;
       c6-1 = refl;
       two-prefixes = refl;
       prefix-prefix = refl;
       prefix-before-immediate = refl;
       prefix-before-push = refl;
       prefix-before-aam = refl;
+      test-f6-short = refl;
+      ret-short = refl;
       prefix-only = refl;
       mov-only = refl;
       mov-displacement = refl;
@@ -241,6 +274,21 @@ pub record Same (off : ℕ) : Type 0 where
   pub xchg-memory : Equal off (0x86 ∷ 0x07 ∷ []) off (0x3E ∷ 0x86 ∷ 0x47 ∷ 0x00 ∷ [])
   pub xchg-memory-first : canonical Op.XCHG S.Byte (O.Memory 7 0 G.DS) (O.Register 0) ≡ canonical Op.XCHG S.Byte (O.Register 0) (O.Memory 7 0 G.DS)
   pub other-xchg : Unequal off (0x87 ∷ 0xC1 ∷ []) off (0x87 ∷ 0xC2 ∷ [])
+  -- TEST has no first and second between a register and memory; two registers keep their order
+  pub test-either-way : canonical Op.TEST S.Byte (O.Memory 7 0 G.DS) (O.Register 1) ≡ canonical Op.TEST S.Byte (O.Register 1) (O.Memory 7 0 G.DS)
+  pub test-ordered : Unequal off (0x85 ∷ 0xD8 ∷ []) off (0x85 ∷ 0xC3 ∷ [])
+  pub test-immediate : Equal off (0xA8 ∷ 0x05 ∷ []) off (0xF6 ∷ 0xC0 ∷ 0x05 ∷ [])
+  -- near and far through one place
+  pub far-through : Unequal off (0xFF ∷ 0x17 ∷ []) off (0xFF ∷ 0x1F ∷ [])
+  -- E9 and EB to one target
+  pub jmp-either : Equal 0 (0xE9 ∷ 0xFD ∷ 0xFF ∷ []) 0 (0xEB ∷ 0xFE ∷ [])
+  pub other-jmp : Unequal 0 (0xE9 ∷ 0xFD ∷ 0xFF ∷ []) 0 (0xEB ∷ 0xFD ∷ [])
+  -- 50 and FF F0, 58 and 8F C0
+  pub push-either : Equal off (0x50 ∷ []) off (0xFF ∷ 0xF0 ∷ [])
+  pub pop-either : Equal off (0x58 ∷ []) off (0x8F ∷ 0xC0 ∷ [])
+  pub push-not-pop : Unequal off (0xFF ∷ 0xF0 ∷ []) off (0x8F ∷ 0xC0 ∷ [])
+  -- RET and RET 0
+  pub ret-0 : Unequal off (0xC3 ∷ []) off (0xC2 ∷ 0x00 ∷ 0x00 ∷ [])
   -- XCHG AX,AX is NOP
   pub nop : Equal off (0x87 ∷ 0xC0 ∷ []) off (0x90 ∷ [])
   pub xchg-al-al : Unequal off (0x86 ∷ 0xC0 ∷ []) off (0x90 ∷ [])
@@ -398,6 +446,46 @@ same off =
         refl,
         refl,
         λ e. let p = parts e in let z : _≡_ {A = ℕ} 1 2 = cc in omega arith,
+      );
+      test-either-way = refl;
+      test-ordered = (
+        instruction Op.TEST S.Word (O.Register 0) (O.Register 3),
+        instruction Op.TEST S.Word (O.Register 3) (O.Register 0),
+        refl,
+        refl,
+        λ e. let p = parts e in let z : _≡_ {A = ℕ} 0 3 = cc in omega arith,
+      );
+      test-immediate = (instruction Op.TEST S.Byte (O.Register 0) (O.Immediate 5), refl, refl);
+      far-through = (
+        instruction Op.CALL S.Word (O.Memory 7 0 G.DS) O.None,
+        instruction Op.CALL S.Unspecified (O.Memory 7 0 G.DS) O.None,
+        refl,
+        refl,
+        λ e. let p = parts e in let z : _≡_ {A = ℕ} 0 1 = cc in omega arith,
+      );
+      jmp-either = (instruction Op.JMP S.Unspecified (O.Near 0) O.None, refl, refl);
+      other-jmp = (
+        instruction Op.JMP S.Unspecified (O.Near 0) O.None,
+        instruction Op.JMP S.Unspecified (O.Near 0xFFFF) O.None,
+        refl,
+        refl,
+        λ e. let p = parts e in let z : _≡_ {A = ℕ} 0 0xFFFF = cc in omega arith,
+      );
+      push-either = (instruction Op.PUSH S.Word (O.Register 0) O.None, refl, refl);
+      pop-either = (instruction Op.POP S.Word (O.Register 0) O.None, refl, refl);
+      push-not-pop = (
+        instruction Op.PUSH S.Word (O.Register 0) O.None,
+        instruction Op.POP S.Word (O.Register 0) O.None,
+        refl,
+        refl,
+        λ e. let p = parts e in let z : _≡_ {A = ℕ} 0 1 = cc in omega arith,
+      );
+      ret-0 = (
+        instruction Op.RET S.Unspecified O.None O.None,
+        instruction Op.RET S.Unspecified (O.Immediate 0) O.None,
+        refl,
+        refl,
+        λ e. let p = parts e in let z : _≡_ {A = ℕ} 0 1 = cc in omega arith,
       );
       nop = (instruction Op.NOP S.Unspecified O.None O.None, refl, refl);
       xchg-al-al = (

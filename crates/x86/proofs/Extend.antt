@@ -19,7 +19,7 @@ use Rattle.x86.specs.declared.Instruction.{Instruction}
 use Rattle.x86.specs.declared.Read.{Read}
 use Rattle.x86.specs.declared.Read.the-variants.{Whole, Nothing, More}
 use Rattle.x86.specs.Instructions.{instruction, canonical}
-use Rattle.x86.specs.Forms.{Slot, rm, rm-near, mem, reg, sreg, sreg-not-cs, acc, low3, bits34, bits34-not-cs, CL, DX, one, moffs, xlat, ib, iw, ib-sx, cb, cw, ptr, nil, Extension, Form, form, forms}
+use Rattle.x86.specs.Forms.{Slot, rm, rm-near, mem, mem-far, reg, sreg, sreg-not-cs, acc, low3, bits34, bits34-not-cs, CL, DX, one, moffs, xlat, ib, iw, ib-sx, cb, cw, ptr, nil, Extension, Form, form, forms}
 use Rattle.x86.specs.Forms as F
 use Rattle.x86.specs.Reading.{mode, low, displacementLength, about, fits, some, startingWith, fitting, addressLength, hasSecond, headLength, memoryLength, tailLength, namesMemory, mayNameMemory, displacementAt, rmAt, at, instructionOf, readForm, readFirst, readSecond, readOpcode, prefix, reads}
 use Rattle.x86.specs.Listing.{Bytes}
@@ -45,6 +45,7 @@ at-alike : (a : Slot) (p c x next : ℕ) (s t u v : List ℕ) → Alike (address
 at-alike (rm w) p c x next s t u v h k = rm-alike p x s t h
 at-alike rm-near p c x next s t u v h k = rm-alike p x s t h
 at-alike mem p c x next s t u v h k = rm-alike p x s t h
+at-alike mem-far p c x next s t u v h k = rm-alike p x s t h
 at-alike (reg w) p c x next s t u v h k = refl
 at-alike sreg p c x next s t u v h k = refl
 at-alike sreg-not-cs p c x next s t u v h k = refl

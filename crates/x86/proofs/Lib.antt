@@ -6,3 +6,4 @@ pub mod Extend
 pub mod Sizes
 pub mod Rows
 pub mod Unread
+pub mod Orders

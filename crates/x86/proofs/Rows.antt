@@ -1,6 +1,6 @@
 -- The table of 256 rows says what the forms say: computed over all first bytes, and the rules that it gives.
 -- Assumes nothing.
-use mathlib.Core.Path.{_≡_, refl, _∙_, ap, subst}
+use mathlib.Core.Path.{_≡_, refl, sym, _∙_, ap, subst}
 use Prim.Native.Nat.{ℕ, zero, suc, _+_, _-_, _≤_, _<_}
 use native.Mathlib.Omega.{arith}
 use native.Mathlib.Nat.{not-suc-le-zero, eq-or-lt-of-le, le-of-suc-le-suc}
@@ -8,13 +8,14 @@ use mathlib.Core.Bool.{Bool, true, false}
 use mathlib.Core.Logic.{⊎-elim}
 use mathlib.Core.List.{List, [], _∷_, map, List·Memᴰ, List·Memᴰ·head, List·Memᴰ·cases-cons, List·Memᴰ·not-nil}
 use lib.Dec.{eqb, ltb}
-use lib.ListN.{length, getD, take, replicate}
+use lib.ListN.{length, getD, take}
 use borrow.Author.Tests.{ltb-true, ltb-false, eqb-true, eqb-false}
-use Rattle.mrc_compiler.specs.Choose.{pick}
-use Rattle.x86.specs.Forms.{Slot, rm, rm-near, mem, reg, sreg, sreg-not-cs, acc, low3, bits34, bits34-not-cs, CL, DX, one, moffs, xlat, ib, iw, ib-sx, cb, cw, ptr, nil, Form, forms}
-use Rattle.x86.specs.Reading.{about, fits, fitting, startingWith, at}
+use Rattle.mrc_compiler.specs.Choose.{pick, both}
+use Rattle.x86.specs.Forms.{Slot, rm, rm-near, mem, mem-far, reg, sreg, sreg-not-cs, acc, low3, bits34, bits34-not-cs, CL, DX, one, moffs, xlat, ib, iw, ib-sx, cb, cw, ptr, nil, Extension, Form, forms}
+use Rattle.x86.specs.Forms as F
+use Rattle.x86.specs.Reading.{digit, about, secondFits, onlyFits, fits, fitting, startingWith, at}
 use Rattle.x86.specs.Rows.{asRead, Shape, shapeOf, rows, shapeAt}
-use Rattle.x86.proofs.Tests.{kept}
+use Rattle.x86.proofs.Tests.{both-first, kept, passed}
 use Rattle.x86.proofs.Unambiguous.{xchgAx, nop, at-90}
 
 -- the values of g below n, the last first
@@ -35,12 +36,21 @@ empty (f ∷ fs) = false
 abbrev alone : ℕ → List Form
 alone c = pick (eqb c 0x90) (take 1 (startingWith c)) (startingWith c)
 
--- what row c says of the forms fs: whether there are none, and the shape of each
-abbrev said : ℕ → List Form → Bool × List Shape
-said c fs = (eqb (getD rows c 0) 0, replicate (length fs) (shapeAt c))
+-- does a form with this extension have the digit d?
+abbrev hasDigit : Extension → ℕ → Bool
+hasDigit F.no d = true
+hasDigit F.+r d = true
+hasDigit F.+s d = true
+hasDigit F./r d = true
+hasDigit (F./ n) d = eqb d n
+hasDigit F.0A d = true
 
-abbrev seen : List Form → Bool × List Shape
-seen fs = (empty fs, map shapeOf fs)
+-- what row c says of the forms fs: whether there are none, and the shape of each, at each digit that it has
+abbrev said : ℕ → List Form → Bool × List (List Shape)
+said c fs = (eqb (getD rows c 0) 0, map (λ f. table 8 (λ d. pick (hasDigit (f .extension) d) (shapeAt c d) (shapeOf f))) fs)
+
+abbrev seen : List Form → Bool × List (List Shape)
+seen fs = (empty fs, map (λ f. table 8 (λ d. shapeOf f)) fs)
 
 -- a row for each first byte
 pub how-many-rows : length rows ≡ 256
@@ -68,33 +78,49 @@ row-right c h = go (ltb c 128) refl
 
 -- row 0 exactly where no form begins
 pub row-unused : (c : ℕ) → c < 256 → eqb (getD rows c 0) 0 ≡ empty (startingWith c)
-row-unused c h = ap (λ (r : Bool × List Shape). r .0) (row-right c h) ∙ go (eqb c 0x90) (startingWith c)
+row-unused c h = ap (λ (r : Bool × List (List Shape)). r .0) (row-right c h) ∙ go (eqb c 0x90) (startingWith c)
   where
     go : (b : Bool) (fs : List Form) → empty (pick b (take 1 fs) fs) ≡ empty fs
     go true [] = refl
     go true (f ∷ fs) = refl
     go false fs = refl
 
-each-shape : (fs : List Form) (s : Shape) → replicate (length fs) s ≡ map shapeOf fs → {f : Form} → List·Memᴰ f fs → shapeOf f ≡ s
-each-shape [] s e m = absurd (List·Memᴰ·not-nil m)
-each-shape (g ∷ fs) s e m = ⊎-elim (λ z. rw z (cc)) (λ l. each-shape fs s (cc) l) (List·Memᴰ·cases-cons m)
+each-shape : (c : ℕ) (fs : List Form) → map (λ f. table 8 (λ d. pick (hasDigit (f .extension) d) (shapeAt c d) (shapeOf f))) fs ≡ map (λ f. table 8 (λ d. shapeOf f)) fs
+    → {f : Form} → List·Memᴰ f fs → (d : ℕ) → d < 8 → hasDigit (f .extension) d ≡ true → shapeOf f ≡ shapeAt c d
+each-shape c [] e m d l h = absurd (List·Memᴰ·not-nil m)
+each-shape c (g ∷ fs) e {f} m d l h = ⊎-elim (λ z. at-head z) (λ k. each-shape c fs (cc) k d l h) (List·Memᴰ·cases-cons m)
+  where
+    at-head : f ≡ g → shapeOf f ≡ shapeAt c d
+    at-head z =
+        let q : hasDigit (g .extension) d ≡ true = rw z at h in
+        let r : pick (hasDigit (g .extension) d) (shapeAt c d) (shapeOf g) ≡ shapeOf g = table-at 8 (λ d. pick (hasDigit (g .extension) d) (shapeAt c d) (shapeOf g)) (λ d. shapeOf g) (cc) d l in
+        rw z (sym (rw q at r))
 
--- each form has its row's shape, but for NOP at 90
-pub row-shape : (c : ℕ) → c < 256 → (c ≡ 0x90 → ⊥) → {f : Form} → List·Memᴰ f (startingWith c) → shapeOf f ≡ shapeAt c
-row-shape c h n {f} m = go (eqb c 0x90) refl (ap (λ (r : Bool × List Shape). r .1) (row-right c h))
+-- each form has its row's shape at each digit that it has, but for NOP at 90
+pub row-shape : (c : ℕ) → c < 256 → (c ≡ 0x90 → ⊥) → {f : Form} → List·Memᴰ f (startingWith c) → (d : ℕ) → d < 8 → hasDigit (f .extension) d ≡ true → shapeOf f ≡ shapeAt c d
+row-shape c h n {f} m d l k = go (eqb c 0x90) refl (ap (λ (r : Bool × List (List Shape)). r .1) (row-right c h))
   where
     go : (b : Bool) → eqb c 0x90 ≡ b
-        → replicate (length (pick b (take 1 (startingWith c)) (startingWith c))) (shapeAt c) ≡ map shapeOf (pick b (take 1 (startingWith c)) (startingWith c))
-        → shapeOf f ≡ shapeAt c
+        → map (λ f. table 8 (λ d. pick (hasDigit (f .extension) d) (shapeAt c d) (shapeOf f))) (pick b (take 1 (startingWith c)) (startingWith c))
+        ≡ map (λ f. table 8 (λ d. shapeOf f)) (pick b (take 1 (startingWith c)) (startingWith c))
+        → shapeOf f ≡ shapeAt c d
     go true q e = absurd (n (eqb-true c 0x90 q))
-    go false q e = each-shape (startingWith c) (shapeAt c) e m
+    go false q e = each-shape c (startingWith c) e m d l k
 
--- the form by which the bytes c, x read has the row's shape
-pub read-shape : (c x : ℕ) → c < 256 → (f : Form) (fs : List Form) → fitting x (startingWith c) ≡ f ∷ fs → shapeOf f ≡ shapeAt c
+digit-fits : (e : Extension) (x : ℕ) → secondFits e x ≡ true → hasDigit e (digit x) ≡ true
+digit-fits F.no x h = refl
+digit-fits F.+r x h = refl
+digit-fits F.+s x h = refl
+digit-fits F./r x h = refl
+digit-fits (F./ n) x h = h
+digit-fits F.0A x h = refl
+
+-- the form by which the bytes c, x read has the row's shape at its digit
+pub read-shape : (c x : ℕ) → c < 256 → (f : Form) (fs : List Form) → fitting x (startingWith c) ≡ f ∷ fs → shapeOf f ≡ shapeAt c (digit x)
 unfolding shapeAt
 read-shape c x h f fs e = go (eqb c 0x90) refl
   where
-    go : (b : Bool) → eqb c 0x90 ≡ b → shapeOf f ≡ shapeAt c
+    go : (b : Bool) → eqb c 0x90 ≡ b → shapeOf f ≡ shapeAt c (digit x)
     go true q =
         let z : c ≡ 0x90 = eqb-true c 0x90 q in
         let l : fitting x (xchgAx ∷ nop ∷ []) ≡ f ∷ fs = rw (z, at-90) at e in
@@ -102,7 +128,9 @@ read-shape c x h f fs e = go (eqb c 0x90) refl
         rw (k, z) refl
     go false q =
         let m : List·Memᴰ f (fitting x (startingWith c)) = rw e (List·Memᴰ·head refl) in
-        row-shape c h (eqb-false c 0x90 q) (kept (fits x) (startingWith c) m)
+        let y : fits x f ≡ true = passed (fits x) (startingWith c) m in
+        row-shape c h (eqb-false c 0x90 q) (kept (fits x) (startingWith c) m) (digit x) (omega arith)
+        (digit-fits (f .extension) x (both-first (secondFits (f .extension) x) (both (onlyFits (about (f .first) .only) x) (onlyFits (about (f .second) .only) x)) y))
 
 -- a slot reads as the shape's
 pub record ReadsLike (a b : Slot) : Type 0 where
@@ -117,6 +145,7 @@ pub as-read : (a : Slot) → ReadsLike (asRead a) a
 as-read (rm w) = itself (rm w)
 as-read rm-near = record { knows = refl; reads = λ p c x next t u. refl }
 as-read mem = itself mem
+as-read mem-far = record { knows = refl; reads = λ p c x next t u. refl }
 as-read (reg w) = itself (reg w)
 as-read sreg = itself sreg
 as-read sreg-not-cs = itself sreg-not-cs

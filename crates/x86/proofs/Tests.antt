@@ -25,6 +25,10 @@ both-right false b t = absurd t
 pub both-parts : (a b : Bool) → T (both a b) → T a × T b
 both-parts a b t = (both-left a b t, both-right a b t)
 
+pub both-first : (a b : Bool) → both a b ≡ true → a ≡ true
+both-first true b e = refl
+both-first false b e = e
+
 -- two tests that agree
 abbrev pub same : Bool → Bool → Bool
 same true b = b
@@ -69,6 +73,15 @@ kept q (g ∷ fs) {f} m = go (q g) (λ l. List·Memᴰ·tail (kept q fs l)) m
     go : (b : Bool) → (List·Memᴰ f (keep q fs) → List·Memᴰ f (g ∷ fs)) → List·Memᴰ f (put b g (keep q fs)) → List·Memᴰ f (g ∷ fs)
     go true below m = ⊎-elim (λ e. List·Memᴰ·head e) below (List·Memᴰ·cases-cons m)
     go false below m = below m
+
+-- and passes the test
+pub passed : (q : Form → Bool) (fs : List Form) {f : Form} → List·Memᴰ f (keep q fs) → q f ≡ true
+passed q [] m = absurd (List·Memᴰ·not-nil m)
+passed q (g ∷ fs) {f} m = go (q g) refl (λ l. passed q fs l) m
+  where
+    go : (b : Bool) → q g ≡ b → (List·Memᴰ f (keep q fs) → q f ≡ true) → List·Memᴰ f (put b g (keep q fs)) → q f ≡ true
+    go true e below m = ⊎-elim (λ z. rw z e) below (List·Memᴰ·cases-cons m)
+    go false e below m = below m
 
 -- it is not longer
 pub keep-shorter : (q : Form → Bool) (fs : List Form) → length (keep q fs) ≤ length fs

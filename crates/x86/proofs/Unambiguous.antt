@@ -19,7 +19,7 @@ use Rattle.x86.specs.Reading.{some, startingWith, fits, fitting, hasSeco
 use Rattle.x86.proofs.Tests.{both-left, both-right, same, same-is, upTo, upTo-at, eachOf, each-at, keep-shorter}
 
 -- as many forms as the list has
-pub how-many : length forms ≡ 217
+pub how-many : length forms ≡ 228
 unfolding forms
 how-many = refl
 
@@ -122,13 +122,13 @@ no-prefix c e = go (eqb c 0x26) (eqb c 0x2E) (eqb c 0x36) (eqb c 0x3E) refl refl
     go false false false true a b d f e = rw (eqb-true c 0x3E f) refl
     go false false false false a b d f e = cc
 
--- ---- every operation has a form but INT1, WAIT and ESC
+-- ---- every operation has a form but INT1 and ESC
 -- some form has the operation
 unfoldable pub has : Operation → Bool
 has op = some (λ f. sameOperation (f .operation) op) forms
 
--- just those three have none
-pub has-form : (op : Operation) → has op ≡ isnt (either (sameOperation op Op.INT1) (either (sameOperation op Op.WAIT) (sameOperation op Op.ESC)))
+-- just those two have none
+pub has-form : (op : Operation) → has op ≡ isnt (either (sameOperation op Op.INT1) (sameOperation op Op.ESC))
 unfolding has forms numberOf
 has-form Op.MOV = refl
 has-form Op.PUSH = refl

@@ -23,31 +23,30 @@ oneOf (a ∷ l) c = either (eqb c a) (oneOf l c)
 abbrev between : ℕ → ℕ → ℕ → Bool
 between a b c = both (leb a c) (leb c b)
 
--- the table's first bytes leave out POP CS (0F), 60 to 6F, 82, 84, 85 and A9 (TEST), 8F, 9A, WAIT (9B), C0 to C2, C8 to CB, ESC (D8 to DF),
--- EB and F1; a prefix byte begins nothing after a prefix
+-- the table's first bytes leave out POP CS (0F), 60 to 6F, 82, 9A, C0, C1, C8 to CB, ESC (D8 to DF) and F1; a prefix byte begins nothing after a prefix
 abbrev pub unreadFirst : ℕ → Bool
 unreadFirst c =
     either (prefix c)
     (either (between 0x60 0x6F c)
-    (either (between 0xC0 0xC2 c)
+    (either (between 0xC0 0xC1 c)
     (either (between 0xC8 0xCB c)
-    (either (between 0xD8 0xDF c) (oneOf (0x0F ∷ 0x82 ∷ 0x84 ∷ 0x85 ∷ 0x8F ∷ 0x9A ∷ 0x9B ∷ 0xA9 ∷ 0xEB ∷ 0xF1 ∷ []) c)))))
+    (either (between 0xD8 0xDF c) (oneOf (0x0F ∷ 0x82 ∷ 0x9A ∷ 0xF1 ∷ []) c)))))
 
 -- unused /n; 8C with /4 to /7; 8E with /1 (CS) and /4 to /7
 abbrev unreadDigit : ℕ → ℕ → Bool
 unreadDigit c n =
-    either (both (between 0xC6 0xC7 c) (isnt (eqb n 0)))
+    either (both (either (eqb c 0x8F) (between 0xC6 0xC7 c)) (isnt (eqb n 0)))
     (either (both (between 0xD0 0xD3 c) (eqb n 6))
-    (either (both (between 0xF6 0xF7 c) (ltb n 2))
+    (either (both (between 0xF6 0xF7 c) (eqb n 1))
     (either (both (eqb c 0xFE) (leb 2 n))
-    (either (both (eqb c 0xFF) (either (eqb n 3) (leb 5 n)))
+    (either (both (eqb c 0xFF) (either (eqb n 5) (eqb n 7)))
     (either (both (eqb c 0x8C) (leb 4 n)) (both (eqb c 0x8E) (either (eqb n 1) (leb 4 n))))))))
 
--- and mode 3 for LEA, LES and LDS; D4 and D5 with another byte than 0A
+-- and mode 3 for LEA, LES, LDS and the far CALL; D4 and D5 with another byte than 0A
 abbrev pub unreadSecond : ℕ → ℕ → Bool
 unreadSecond c x =
     either (unreadDigit c (digit x))
-    (either (both (oneOf (0x8D ∷ 0xC4 ∷ 0xC5 ∷ []) c) (eqb (mode x) 3)) (both (oneOf (0xD4 ∷ 0xD5 ∷ []) c) (isnt (eqb x 0x0A))))
+    (either (both (either (oneOf (0x8D ∷ 0xC4 ∷ 0xC5 ∷ []) c) (both (eqb c 0xFF) (eqb (digit x) 3))) (eqb (mode x) 3)) (both (oneOf (0xD4 ∷ 0xD5 ∷ []) c) (isnt (eqb x 0x0A))))
 
 -- the forms have a second byte
 abbrev pub wantsSecond : List Form → Bool

@@ -8,7 +8,7 @@ use Prim.Native.Nat.{ℕ, suc, _+_, _*_}
 use Rattle.mrc_compiler.specs.declared.encoder.OperandSize.{OperandSize}
 use Rattle.mrc_compiler.specs.declared.encoder.OperandSize.the-variants as S
 use Rattle.mrc_compiler.specs.declared.operations.Operation.{Operation}
-use Rattle.mrc_compiler.specs.declared.operations.Operation.the-variants.{MOV, PUSH, POP, XCHG, IN, OUT, XLATB, LEA, LDS, LES, LAHF, SAHF, PUSHF, POPF, ADD, ADC, INC, AAA, DAA, SUB, SBB, DEC, NEG, CMP, AAS, DAS, MUL, IMUL, AAM, DIV, IDIV, AAD, CBW, CWD, NOT, SHL, SHR, SAR, ROL, ROR, RCL, RCR, AND, TEST, OR, XOR, REP, REPNE, MOVSB, MOVSW, CMPSB, CMPSW, SCASB, SCASW, LODSB, LODSW, STOSB, STOSW, CALL, JMP, RET, JE, JL, JLE, JB, JBE, JP, JO, JS, JNE, JNL, JNLE, JNB, JNBE, JNP, JNO, JNS, LOOP, LOOPZ, LOOPNZ, JCXZ, INT, INT3, INTO, IRET, CLC, CMC, STC, CLD, STD, CLI, STI, HLT, LOCK, NOP, SALC}
+use Rattle.mrc_compiler.specs.declared.operations.Operation.the-variants.{MOV, PUSH, POP, XCHG, IN, OUT, XLATB, LEA, LDS, LES, LAHF, SAHF, PUSHF, POPF, ADD, ADC, INC, AAA, DAA, SUB, SBB, DEC, NEG, CMP, AAS, DAS, MUL, IMUL, AAM, DIV, IDIV, AAD, CBW, CWD, NOT, SHL, SHR, SAR, ROL, ROR, RCL, RCR, AND, TEST, OR, XOR, REP, REPNE, MOVSB, MOVSW, CMPSB, CMPSW, SCASB, SCASW, LODSB, LODSW, STOSB, STOSW, CALL, JMP, RET, JE, JL, JLE, JB, JBE, JP, JO, JS, JNE, JNL, JNLE, JNB, JNBE, JNP, JNO, JNS, LOOP, LOOPZ, LOOPNZ, JCXZ, INT, INT3, INTO, IRET, CLC, CMC, STC, CLD, STD, CLI, STI, HLT, WAIT, LOCK, NOP, SALC}
 use Rattle.mrc_compiler.specs.Values.{eighth}
 -- where an operand stands
 pub use Rattle.forms.specs.declared.Slot.{Slot}
@@ -16,6 +16,7 @@ pub use Rattle.forms.specs.declared.Slot.the-variants.{
   Rm as rm,  -- r/m field of ModRM: a register or memory
   RmNear as rm-near,  -- the same, a word that holds a near target
   Mem as mem,  -- r/m field, memory only
+  MemFar as mem-far,  -- the same, memory that holds a far target (m16:16)
   Reg as reg,  -- reg field of ModRM
   Sreg as sreg,  -- reg field, a segment register
   SregNotCs as sreg-not-cs,  -- the same, not CS
@@ -121,14 +122,22 @@ exchange op =
     ∷ form 0x87 /r op (reg word) (rm word)
     ∷ []
 
+-- TEST
 abbrev pub test : Operation → List Form
-test op = form 0xA8 no op (acc byte) ib ∷ []
+test op =
+    form 0x84 /r op (rm byte) (reg byte)
+    ∷ form 0x85 /r op (rm word) (reg word)
+    ∷ form 0xA8 no op (acc byte) ib
+    ∷ form 0xA9 no op (acc word) iw
+    ∷ form 0xF6 (/ 0) op (rm byte) ib
+    ∷ form 0xF7 (/ 0) op (rm word) iw
+    ∷ []
 
 abbrev pub push : Operation → List Form
-push op = form 0x50 +r op (low3 word) nil ∷ form 0x06 +s op bits34 nil ∷ []
+push op = form 0x50 +r op (low3 word) nil ∷ form 0x06 +s op bits34 nil ∷ form 0xFF (/ 6) op (rm word) nil ∷ []
 
 abbrev pub pop : Operation → List Form
-pop op = form 0x58 +r op (low3 word) nil ∷ form 0x07 +s op bits34-not-cs nil ∷ []
+pop op = form 0x58 +r op (low3 word) nil ∷ form 0x07 +s op bits34-not-cs nil ∷ form 0x8F (/ 0) op (rm word) nil ∷ []
 
 -- LEA LES LDS
 abbrev pub load : ℕ → Operation → List Form
@@ -144,10 +153,14 @@ shift n op =
     ∷ []
 
 abbrev pub call : Operation → List Form
-call op = form 0xE8 no op cw nil ∷ form 0xFF (/ 2) op rm-near nil ∷ []
+call op = form 0xE8 no op cw nil ∷ form 0xFF (/ 2) op rm-near nil ∷ form 0xFF (/ 3) op mem-far nil ∷ []
 
 abbrev pub jump : Operation → List Form
-jump op = form 0xE9 no op cw nil ∷ form 0xEA no op ptr nil ∷ form 0xFF (/ 4) op rm-near nil ∷ []
+jump op = form 0xE9 no op cw nil ∷ form 0xEA no op ptr nil ∷ form 0xEB no op cb nil ∷ form 0xFF (/ 4) op rm-near nil ∷ []
+
+-- RET
+abbrev pub ret : Operation → List Form
+ret op = form 0xC3 no op nil nil ∷ form 0xC2 no op iw nil ∷ []
 
 -- Jcc, LOOPNZ LOOPZ LOOP JCXZ
 abbrev pub short : ℕ → Operation → Form
@@ -191,17 +204,17 @@ forms =
     ++ move MOV ++ exchange XCHG ++ test TEST ++ push PUSH ++ pop POP
     ++ load 0x8D LEA ++ load 0xC4 LES ++ load 0xC5 LDS
     ++ shift 0 ROL ++ shift 1 ROR ++ shift 2 RCL ++ shift 3 RCR ++ shift 4 SHL ++ shift 5 SHR ++ shift 7 SAR
-    ++ call CALL ++ jump JMP
+    ++ call CALL ++ jump JMP ++ ret RET
     ++ from 0x70 short (JO ∷ JNO ∷ JB ∷ JNB ∷ JE ∷ JNE ∷ JBE ∷ JNBE ∷ JS ∷ JNS ∷ JP ∷ JNP ∷ JL ∷ JNL ∷ JLE ∷ JNLE ∷ [])
     ++ from 0xE0 short (LOOPNZ ∷ LOOPZ ∷ LOOP ∷ JCXZ ∷ [])
     ++ interrupt INT ++ translate XLATB ++ input IN ++ output OUT ++ adjust 0xD4 AAM ++ adjust 0xD5 AAD
     -- single bytes; 90 is XCHG AX,AX too, which is the same instruction
     ++ single 0x27 DAA ∷ single 0x2F DAS ∷ single 0x37 AAA ∷ single 0x3F AAS ∷ single 0x90 NOP
     ∷ single 0x98 CBW ∷ single 0x99 CWD
-    ∷ from 0x9C single (PUSHF ∷ POPF ∷ SAHF ∷ LAHF ∷ [])
+    ∷ from 0x9B single (WAIT ∷ PUSHF ∷ POPF ∷ SAHF ∷ LAHF ∷ [])
     ++ from 0xA4 single (MOVSB ∷ MOVSW ∷ CMPSB ∷ CMPSW ∷ [])
     ++ from 0xAA single (STOSB ∷ STOSW ∷ LODSB ∷ LODSW ∷ SCASB ∷ SCASW ∷ [])
-    ++ single 0xC3 RET ∷ single 0xCC INT3 ∷ single 0xCE INTO ∷ single 0xCF IRET
+    ++ single 0xCC INT3 ∷ single 0xCE INTO ∷ single 0xCF IRET
     ∷ single 0xD6 SALC
     ∷ single 0xF0 LOCK ∷ single 0xF2 REPNE ∷ single 0xF3 REP ∷ single 0xF4 HLT ∷ single 0xF5 CMC
     ∷ from 0xF8 single (CLC ∷ STC ∷ CLI ∷ STI ∷ CLD ∷ STD ∷ [])

@@ -36,9 +36,6 @@ abbrev pub base : ℕ → ℕ → ℕ
 base mode rm = pick (both (eqb mode 0) (eqb rm 6)) 8 rm
 
 -- ---- operations whose operands have no first and second
-abbrev pub symmetric : Operation → Bool
-symmetric op = sameOperation op Op.XCHG
-
 -- the register's number, or none
 abbrev pub byRegister : {A : Type 0} → Operand → (ℕ → A) → A → A
 byRegister O.None r e = e
@@ -50,9 +47,17 @@ byRegister (O.Near t) r e = e
 byRegister (O.Far t s) r e = e
 byRegister O.One r e = e
 
--- of two registers the lower stands first, and a register before memory
+-- XCHG: of two registers the lower stands first, and a register before memory
 abbrev pub exchanged : Operand → Operand → Bool
 exchanged a b = byRegister a (λ m. byRegister b (λ n. ltb n m) false) true
+
+-- TEST: a register stands before memory, and two registers keep their order
+abbrev pub memoryFirst : Operand → Operand → Bool
+memoryFirst a b = byRegister a (λ m. false) (byRegister b (λ n. true) false)
+
+-- do the operands change places?
+abbrev pub crossing : Operation → Operand → Operand → Bool
+crossing op a b = either (both (sameOperation op Op.XCHG) (exchanged a b)) (both (sameOperation op Op.TEST) (memoryFirst a b))
 
 -- XCHG AX,AX
 abbrev pub isNop : Operation → OperandSize → Operand → Operand → Bool
@@ -64,4 +69,4 @@ isNop op w a b =
 unfoldable pub canonical : Operation → OperandSize → Operand → Operand → Instruction
 canonical op w a b =
     pick (isNop op w a b) (instruction Op.NOP S.Unspecified O.None O.None)
-    (pick (both (symmetric op) (exchanged a b)) (instruction op w b a) (instruction op w a b))
+    (pick (crossing op a b) (instruction op w b a) (instruction op w a b))

@@ -15,7 +15,7 @@ use Rattle.x86.specs.declared.Instruction.{Instruction}
 use Rattle.x86.specs.declared.Read.{Read}
 use Rattle.x86.specs.declared.Read.the-variants.{Whole, Nothing, More}
 use Rattle.x86.specs.Instructions.{defaultSegment, inEffect, base, canonical}
-use Rattle.x86.specs.Forms.{byte, word, Slot, rm, rm-near, mem, reg, sreg, sreg-not-cs, acc, low3, bits34, bits34-not-cs, CL, DX, one, moffs, xlat, ib, iw, ib-sx, cb, cw, ptr, nil, Extension, Form, forms}
+use Rattle.x86.specs.Forms.{byte, word, Slot, rm, rm-near, mem, mem-far, reg, sreg, sreg-not-cs, acc, low3, bits34, bits34-not-cs, CL, DX, one, moffs, xlat, ib, iw, ib-sx, cb, cw, ptr, nil, Extension, Form, forms}
 use Rattle.x86.specs.Forms as F
 -- what is known of a slot before the bytes behind the opcode are read
 pub use Rattle.forms.specs.declared.About.{About}
@@ -181,6 +181,7 @@ abbrev pub at : Slot → ℕ → ℕ → ℕ → ℕ → List ℕ → List ℕ �
 at (rm w) p c x next t u = rmAt p x t
 at rm-near p c x next t u = rmAt p x t
 at mem p c x next t u = rmAt p x t
+at mem-far p c x next t u = rmAt p x t
 at (reg w) p c x next t u = O.Register (digit x)
 at sreg p c x next t u = O.SegmentRegister (digit x)
 at sreg-not-cs p c x next t u = O.SegmentRegister (digit x)

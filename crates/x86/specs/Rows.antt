@@ -3,8 +3,10 @@
 -- Definitions only.
 use mathlib.Core.List.{List, [], _∷_}
 use Prim.Native.Nat.{ℕ}
+use lib.Dec.{eqb}
 use lib.ListN.{getD}
-use Rattle.x86.specs.Forms.{byte, word, Slot, rm, rm-near, mem, reg, sreg, sreg-not-cs, acc, low3, bits34, bits34-not-cs, CL, DX, one, moffs, xlat, ib, iw, ib-sx, cb, cw, ptr, nil, Extension, Form}
+use Rattle.mrc_compiler.specs.Choose.{pick}
+use Rattle.x86.specs.Forms.{byte, word, Slot, rm, rm-near, mem, mem-far, reg, sreg, sreg-not-cs, acc, low3, bits34, bits34-not-cs, CL, DX, one, moffs, xlat, ib, iw, ib-sx, cb, cw, ptr, nil, Extension, Form}
 use Rattle.x86.specs.Forms as F
 pub use Rattle.forms.specs.declared.Shape.{Shape}
 -- an extension, whatever its digit
@@ -24,6 +26,7 @@ abbrev pub asRead : Slot → Slot
 asRead (rm w) = rm w
 asRead rm-near = rm word
 asRead mem = mem
+asRead mem-far = mem
 asRead (reg w) = reg w
 asRead sreg = sreg
 asRead sreg-not-cs = sreg-not-cs
@@ -96,9 +99,11 @@ shapes =
     ∷ shape plain DX (acc word)  -- 40
     ∷ shape modrm-digit (rm byte) nil  -- 41
     ∷ shape modrm-digit (rm word) nil  -- 42
+    ∷ shape modrm-digit mem nil  -- 43
+    ∷ shape plain iw nil  -- 44
     ∷ []
 
--- by first byte, 16 a line; 90 has XCHG's
+-- by first byte, 16 a line; 90 has XCHG's. Above 44 the digit decides (byDigit)
 abbrev pub rows : List ℕ
 rows =
     -- 0
@@ -118,26 +123,34 @@ rows =
     -- 7
     ∷ 11 ∷ 11 ∷ 11 ∷ 11 ∷ 11 ∷ 11 ∷ 11 ∷ 11 ∷ 11 ∷ 11 ∷ 11 ∷ 11 ∷ 11 ∷ 11 ∷ 11 ∷ 11
     -- 8
-    ∷ 12 ∷ 13 ∷ 0 ∷ 14 ∷ 0 ∷ 0 ∷ 3 ∷ 4 ∷ 1 ∷ 2 ∷ 3 ∷ 4 ∷ 15 ∷ 16 ∷ 17 ∷ 0
+    ∷ 12 ∷ 13 ∷ 0 ∷ 14 ∷ 1 ∷ 2 ∷ 3 ∷ 4 ∷ 1 ∷ 2 ∷ 3 ∷ 4 ∷ 15 ∷ 16 ∷ 17 ∷ 42
     -- 9
-    ∷ 18 ∷ 18 ∷ 18 ∷ 18 ∷ 18 ∷ 18 ∷ 18 ∷ 18 ∷ 9 ∷ 9 ∷ 0 ∷ 0 ∷ 9 ∷ 9 ∷ 9 ∷ 9
+    ∷ 18 ∷ 18 ∷ 18 ∷ 18 ∷ 18 ∷ 18 ∷ 18 ∷ 18 ∷ 9 ∷ 9 ∷ 0 ∷ 9 ∷ 9 ∷ 9 ∷ 9 ∷ 9
     -- A
-    ∷ 19 ∷ 20 ∷ 21 ∷ 22 ∷ 9 ∷ 9 ∷ 9 ∷ 9 ∷ 5 ∷ 0 ∷ 9 ∷ 9 ∷ 9 ∷ 9 ∷ 9 ∷ 9
+    ∷ 19 ∷ 20 ∷ 21 ∷ 22 ∷ 9 ∷ 9 ∷ 9 ∷ 9 ∷ 5 ∷ 6 ∷ 9 ∷ 9 ∷ 9 ∷ 9 ∷ 9 ∷ 9
     -- B
     ∷ 23 ∷ 23 ∷ 23 ∷ 23 ∷ 23 ∷ 23 ∷ 23 ∷ 23 ∷ 24 ∷ 24 ∷ 24 ∷ 24 ∷ 24 ∷ 24 ∷ 24 ∷ 24
     -- C
-    ∷ 0 ∷ 0 ∷ 0 ∷ 9 ∷ 16 ∷ 16 ∷ 12 ∷ 13 ∷ 0 ∷ 0 ∷ 0 ∷ 0 ∷ 9 ∷ 25 ∷ 9 ∷ 9
+    ∷ 0 ∷ 0 ∷ 44 ∷ 9 ∷ 16 ∷ 16 ∷ 12 ∷ 13 ∷ 0 ∷ 0 ∷ 0 ∷ 0 ∷ 9 ∷ 25 ∷ 9 ∷ 9
     -- D
     ∷ 26 ∷ 27 ∷ 28 ∷ 29 ∷ 30 ∷ 30 ∷ 9 ∷ 31 ∷ 0 ∷ 0 ∷ 0 ∷ 0 ∷ 0 ∷ 0 ∷ 0 ∷ 0
     -- E
-    ∷ 11 ∷ 11 ∷ 11 ∷ 11 ∷ 5 ∷ 32 ∷ 33 ∷ 34 ∷ 35 ∷ 35 ∷ 36 ∷ 0 ∷ 37 ∷ 38 ∷ 39 ∷ 40
+    ∷ 11 ∷ 11 ∷ 11 ∷ 11 ∷ 5 ∷ 32 ∷ 33 ∷ 34 ∷ 35 ∷ 35 ∷ 36 ∷ 11 ∷ 37 ∷ 38 ∷ 39 ∷ 40
     -- F
-    ∷ 9 ∷ 0 ∷ 9 ∷ 9 ∷ 9 ∷ 9 ∷ 41 ∷ 42 ∷ 9 ∷ 9 ∷ 9 ∷ 9 ∷ 9 ∷ 9 ∷ 41 ∷ 42
+    ∷ 9 ∷ 0 ∷ 9 ∷ 9 ∷ 9 ∷ 9 ∷ 45 ∷ 46 ∷ 9 ∷ 9 ∷ 9 ∷ 9 ∷ 9 ∷ 9 ∷ 41 ∷ 47
     ∷ []
 
 abbrev pub shapeNumbered : ℕ → Shape
 shapeNumbered n = getD shapes n (shape unused nil nil)
 
--- the shape of first byte c
-unfoldable pub shapeAt : ℕ → Shape
-shapeAt c = shapeNumbered (getD rows c 0)
+-- three rows have two shapes, by the digit: 45, F6, where TEST has an immediate and the others none; 46, F7, the same of words; 47, FF, whose
+-- far CALL takes memory only
+abbrev pub byDigit : ℕ → ℕ → ℕ
+byDigit n d =
+    pick (eqb n 45) (pick (eqb d 0) 12 41)
+    (pick (eqb n 46) (pick (eqb d 0) 13 42)
+    (pick (eqb n 47) (pick (eqb d 3) 43 42) n))
+
+-- the shape of first byte c, with digit d where it has one
+unfoldable pub shapeAt : ℕ → ℕ → Shape
+shapeAt c d = shapeNumbered (byDigit (getD rows c 0) d)

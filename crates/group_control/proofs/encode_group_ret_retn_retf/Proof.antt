@@ -10,5 +10,6 @@ encode-group-ret-retn-retf-spec =
     (λ c κs. search needs)
     (λ c κs. search needs)
     (λ c κs. search needs)
+    (λ c κs. search needs)
     (λ c. rw (sym (c .before .before .is-zero .ensures) ∙ c .before .if1 .taken) (c .plain .ensures))
-    (λ c. rw (sym (c .before .before .is-zero .ensures) ∙ c .before .if1 .left) (c .plain2 .ensures)))
+    (λ c. rw (sym (c .before .before .before .is-zero .ensures) ∙ c .before .before .if1 .left) (c .plain2 .ensures ∙ rw (c .before .ret-form .ensures))))

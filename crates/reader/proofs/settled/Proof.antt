@@ -1,5 +1,5 @@
 use mathlib.Core.Path.{sym, _∙_}
-use Rattle.reader.proofs.Laws.{as-it-is}
+use Rattle.x86.proofs.Orders.{as-they-stand}
 use borrow.Author.Needs.{needs}
 use Rattle.reader.proofs.settled.Statement.{statement}
 use Rattle.reader.proofs.settled.Tie as tie
@@ -9,6 +9,9 @@ settled-spec =
     tie.close
     (tie.spec
     (λ c κs. search needs)
-    (λ c κs. c .before .before .pre ∙ sym (c .before .is-exchange .ensures) ∙ c .if1 .taken)
+    (λ c κs. c .before .before .pre .0 ∙ sym (c .before .is-exchange .ensures) ∙ c .if1 .taken)
     (λ c. c .exchange .ensures)
-    (λ c. as-it-is _ _ _ _ (c .before .before .pre ∙ sym (c .before .is-exchange .ensures) ∙ c .if1 .left)))
+    (λ c κs. search needs)
+    (λ c κs. rw (sym (c .before .tests-register .ensures) ∙ c .if2 .taken) at (c .before .before .before .before .pre .2))
+    (λ c. c .register-first .ensures)
+    (λ c. sym (as-they-stand _ _ _ _ (c .before .before .before .before .pre .0 ∙ sym (c .before .before .before .is-exchange .ensures) ∙ c .before .before .if1 .left) (rw (sym (c .before .tests-register .ensures) ∙ c .if2 .left) at (c .before .before .before .before .pre .1)))))

@@ -12,4 +12,5 @@ digits-of-spec =
     (λ c. (search tests, search needs))
     (λ c. (search tests, search needs))
     (λ c. (search tests, search needs))
+    (λ c. (search tests, search needs))
     (λ c. (search tests, search needs)))

@@ -52,4 +52,6 @@ shape-of-spec =
     (λ c. rw (c .match .keys41))
     (λ c. rw (c .match .keys42))
     (λ c. rw (c .match .keys43))
-    (λ c. sym (List·getD-eq-default shapes _ (past 43 (c .before .args .row) (c .match .rest)))))
+    (λ c. rw (c .match .keys44))
+    (λ c. rw (c .match .keys45))
+    (λ c. sym (List·getD-eq-default shapes _ (past 45 (c .before .args .row) (c .match .rest)))))

@@ -11,5 +11,5 @@ start-call-spec =
     (tie.spec
     (λ c κs. search needs)
     (λ c. rw (eq-eqb _ _ (c .before .if1 .taken)) (c .bare-start .ensures))
-    (λ c κs. search needs)
-    (λ c. rw (ne-eqb _ _ (c .before .if1 .left)) (c .start-with-rm .ensures)))
+    (λ c κs. search needs) (λ c κs. search needs)
+    (λ c. rw (ne-eqb _ _ (c .before .before .if1 .left)) (rw (c .before .sized-opcode .ensures) at (c .start-with-rm .ensures))))

@@ -10,8 +10,10 @@ start-jump-spec =
     tie.close
     (tie.spec
     (λ c κs. search needs)
-    (λ c. rw (eq-eqb _ _ (c .before .if1 .taken)) (c .bare-start .ensures))
+    (λ c. rw (eq-eqb _ _ (c .before .before .if1 .taken), eq-eqb _ _ (c .before .if2 .taken)) (c .bare-start .ensures))
     (λ c κs. search needs)
-    (λ c. rw (ne-eqb _ _ (c .before .before .before .if1 .left), eq-eqb _ _ (c .before .if2 .taken)) (c .bare-start2 .ensures))
+    (λ c. rw (eq-eqb _ _ (c .before .before .if1 .taken), ne-eqb _ _ (c .before .if2 .left)) (c .bare-start2 .ensures))
     (λ c κs. search needs)
-    (λ c. rw (ne-eqb _ _ (c .before .before .before .if1 .left), ne-eqb _ _ (c .before .if2 .left)) (c .start-with-rm .ensures)))
+    (λ c. rw (ne-eqb _ _ (c .before .before .before .if1 .left), eq-eqb _ _ (c .before .if3 .taken)) (c .bare-start3 .ensures))
+    (λ c κs. search needs)
+    (λ c. rw (ne-eqb _ _ (c .before .before .before .if1 .left), ne-eqb _ _ (c .before .if3 .left)) (c .start-with-rm .ensures)))

@@ -9,7 +9,9 @@ unfolding stack
 start-stack-spec =
     tie.close
     (tie.spec
+    (λ c κs. search needs)
+    (λ c. rw (eq-eqb _ _ (c .before .if1 .taken)) (c .start-with-rm .ensures))
     (λ c κs. search needs) (λ c κs. search needs)
-    (λ c. rw (eq-eqb _ _ (c .before .before .if1 .taken)) (rw (c .before .plus-opcode .ensures) at (c .bare-start .ensures)))
+    (λ c. rw (ne-eqb _ _ (c .before .before .before .before .if1 .left), eq-eqb _ _ (c .before .before .if2 .taken)) (rw (c .before .plus-opcode .ensures) at (c .bare-start .ensures)))
     (λ c. search needs) (λ c κs. search needs) (λ c κs. search needs)
-    (λ c. rw (ne-eqb _ _ (c .before .before .if1 .left)) (rw (c .before .plus-opcode2 .ensures) at (c .bare-start2 .ensures))))
+    (λ c. rw (ne-eqb _ _ (c .before .before .before .before .if1 .left), ne-eqb _ _ (c .before .before .if2 .left)) (rw (c .before .plus-opcode2 .ensures) at (c .bare-start2 .ensures))))
