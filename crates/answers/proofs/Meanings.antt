@@ -17,7 +17,7 @@ use Rattle.mrc_compiler.specs.declared.encoder.OperandSize.{OperandSize}
 use Rattle.mrc_compiler.specs.declared.encoder.OperandSize.the-variants as S
 use Rattle.mrc_compiler.specs.declared.operations.Operation.{Operation}
 use Rattle.mrc_compiler.specs.declared.operations.Operation.the-variants as Op
-use Rattle.mrc_compiler.specs.Choose.{pick, both, either, bySize, byJump}
+use Rattle.mrc_compiler.specs.Choose.{pick, both, either, isnt, bySize, byJump}
 use Rattle.mrc_compiler.specs.Operations.{sameOperation}
 use Rattle.x86.specs.declared.Operand.{Operand}
 use Rattle.x86.specs.declared.Operand.the-variants as O
@@ -29,7 +29,7 @@ use Rattle.x86.proofs.Orders.{xchg-only, test-either}
 use Rattle.answers.specs.Records.{sameSize, statedOf}
 use Rattle.groups.specs.declared.Group.{Group}
 use Rattle.groups.specs.declared.Group.the-variants as G
-use Rattle.answers.specs.Operands.{ifReg, ifMem, counted, port, count, nearTarget, farTarget, ofNone, ofTwo, ofAddress, ofNear, ofTransfer}
+use Rattle.answers.specs.Operands.{ifImm, ifReg, ifMem, counted, port, count, nearTarget, farTarget, ofNone, ofTwo, ofAddress, ofNear, ofTransfer}
 use Rattle.answers.specs.Rules.{either-states, Special, ordinary, unordered, unordered-memory, by-count, target-first, not-supported, rule}
 use Rattle.answers.specs.Blocks.{block}
 use Rattle.answers.specs.Meaning.{unusedBy, meant}
@@ -184,61 +184,68 @@ all-at {P} (p & ps) m = ⊎-elim (λ e. subst P (sym e) p) (λ l. all-at ps l) (
 -- ---- the blocks of the list
 arithmetic-leaves : (b : ℕ) (op : Operation) → All (Leaf G.Arithmetic op) (F.arithmetic b op)
 arithmetic-leaves b op =
-    two (of-two refl refl (λ k. refl)) rm-reg rm-sized plain plain
-    & two (of-two refl refl (λ k. refl)) rm-reg rm-sized plain plain
-    & two (of-two refl refl (λ k. refl)) reg-rm reg-sized plain plain
-    & two (of-two refl refl (λ k. refl)) reg-rm reg-sized plain plain
-    & two (of-two refl refl (λ k. refl)) rm-digit rm-sized plain sx-word
-    & two (of-two refl refl (λ k. refl)) bare acc-sized plain ib-byte
-    & two (of-two refl refl (λ k. refl)) bare acc-sized plain iw-word
-    & two (of-two refl refl (λ k. refl)) rm-digit rm-sized plain ib-byte
-    & two (of-two refl refl (λ k. refl)) rm-digit rm-sized plain iw-word
+    let t : OfTwo G.Arithmetic = of-two refl refl (λ k. refl) in
+    two t rm-reg rm-sized plain plain
+    & two t rm-reg rm-sized plain plain
+    & two t reg-rm reg-sized plain plain
+    & two t reg-rm reg-sized plain plain
+    & two t rm-digit rm-sized plain sx-word
+    & two t bare acc-sized plain ib-byte
+    & two t bare acc-sized plain iw-word
+    & two t rm-digit rm-sized plain ib-byte
+    & two t rm-digit rm-sized plain iw-word
     & end
 
 unary-leaves : (n : ℕ) (op : Operation) → All (Leaf G.Unary op) (F.unary n op)
-unary-leaves n op = own (of-first (λ a b o. refl) (λ k. refl) (λ op a b. refl)) rm-digit rm-sized plain plain & own (of-first (λ a b o. refl) (λ k. refl) (λ op a b. refl)) rm-digit rm-sized plain plain & end
+unary-leaves n op =
+    let t : OfFirst G.Unary (λ b. O.None) = of-first (λ a b o. refl) (λ k. refl) (λ op a b. refl) in
+    own t rm-digit rm-sized plain plain & own t rm-digit rm-sized plain plain & end
 
 incDec-leaves : (n : ℕ) (op : Operation) → All (Leaf G.IncDec op) (F.incDec n op)
 incDec-leaves n op =
+    let t : OfFirst G.IncDec (λ b. O.None) = of-first (λ a b o. refl) (λ k. refl) (λ op a b. refl) in
     let e : (0x40 + 8 * n) % 8 ≡ 0 = omega arith in
-    own (of-first (λ a b o. refl) (λ k. refl) (λ op a b. refl)) (low3-first e) low3-sized plain plain
-    & own (of-first (λ a b o. refl) (λ k. refl) (λ op a b. refl)) rm-digit rm-sized plain plain
-    & own (of-first (λ a b o. refl) (λ k. refl) (λ op a b. refl)) rm-digit rm-sized plain plain
+    own t (low3-first e) low3-sized plain plain
+    & own t rm-digit rm-sized plain plain
+    & own t rm-digit rm-sized plain plain
     & end
 
 move-leaves : (op : Operation) → All (Leaf G.Mov op) (F.move op)
 move-leaves op =
-    two (of-two refl refl (λ k. refl)) address-second acc-sized plain plain
-    & two (of-two refl refl (λ k. refl)) address-second acc-sized plain plain
-    & two-by-second (of-two refl refl (λ k. refl)) address-first acc-sized plain plain
-    & two-by-second (of-two refl refl (λ k. refl)) address-first acc-sized plain plain
-    & two (of-two refl refl (λ k. refl)) rm-reg rm-sized plain plain
-    & two (of-two refl refl (λ k. refl)) rm-reg rm-sized plain plain
-    & two (of-two refl refl (λ k. refl)) reg-rm reg-sized plain plain
-    & two (of-two refl refl (λ k. refl)) reg-rm reg-sized plain plain
-    & two (of-two refl refl (λ k. refl)) rm-reg rm-sized plain plain
-    & two-by-second (of-two refl refl (λ k. refl)) reg-rm rm-sized plain plain
-    & two (of-two refl refl (λ k. refl)) (low3-first refl) low3-sized plain ib-byte
-    & two (of-two refl refl (λ k. refl)) (low3-first refl) low3-sized plain iw-word
-    & two (of-two refl refl (λ k. refl)) rm-digit rm-sized plain ib-byte
-    & two (of-two refl refl (λ k. refl)) rm-digit rm-sized plain iw-word
+    let t : OfTwo G.Mov = of-two refl refl (λ k. refl) in
+    two t address-second acc-sized plain plain
+    & two t address-second acc-sized plain plain
+    & two-by-second t address-first acc-sized plain plain
+    & two-by-second t address-first acc-sized plain plain
+    & two t rm-reg rm-sized plain plain
+    & two t rm-reg rm-sized plain plain
+    & two t reg-rm reg-sized plain plain
+    & two t reg-rm reg-sized plain plain
+    & two t rm-reg rm-sized plain plain
+    & two-by-second t reg-rm rm-sized plain plain
+    & two t (low3-first refl) low3-sized plain ib-byte
+    & two t (low3-first refl) low3-sized plain iw-word
+    & two t rm-digit rm-sized plain ib-byte
+    & two t rm-digit rm-sized plain iw-word
     & end
 
 exchange-leaves : (op : Operation) → All (Leaf G.Xchg op) (F.exchange op)
 exchange-leaves op =
-    two (of-two refl refl (λ k. refl)) (low3-second refl) acc-sized plain plain
-    & two (of-two refl refl (λ k. refl)) reg-rm reg-sized plain plain
-    & two (of-two refl refl (λ k. refl)) reg-rm reg-sized plain plain
+    let t : OfTwo G.Xchg = of-two refl refl (λ k. refl) in
+    two t (low3-second refl) acc-sized plain plain
+    & two t reg-rm reg-sized plain plain
+    & two t reg-rm reg-sized plain plain
     & end
 
 test-leaves : (op : Operation) → All (Leaf G.Test op) (F.test op)
 test-leaves op =
-    two (of-two refl refl (λ k. refl)) rm-reg rm-sized plain plain
-    & two (of-two refl refl (λ k. refl)) rm-reg rm-sized plain plain
-    & two (of-two refl refl (λ k. refl)) bare acc-sized plain ib-byte
-    & two (of-two refl refl (λ k. refl)) bare acc-sized plain iw-word
-    & two (of-two refl refl (λ k. refl)) rm-digit rm-sized plain ib-byte
-    & two (of-two refl refl (λ k. refl)) rm-digit rm-sized plain iw-word
+    let t : OfTwo G.Test = of-two refl refl (λ k. refl) in
+    two t rm-reg rm-sized plain plain
+    & two t rm-reg rm-sized plain plain
+    & two t bare acc-sized plain ib-byte
+    & two t bare acc-sized plain iw-word
+    & two t rm-digit rm-sized plain ib-byte
+    & two t rm-digit rm-sized plain iw-word
     & end
 
 push-leaves : (op : Operation) → All (Leaf G.Push op) (F.push op)
@@ -258,19 +265,17 @@ pop-leaves op =
     & end
 
 -- RET: which form, by the count
-none-used : (t : Bool) → pick t true false ≡ true → t ≡ true
-none-used true e = refl
-none-used false e = e
-
-one-used : (t : Bool) → pick t false true ≡ true → t ≡ false
-one-used true e = false-true e
-one-used false e = refl
+by-test : (t s : Bool) → pick t s (isnt s) ≡ true → t ≡ s
+by-test true true e = refl
+by-test true false e = sym e
+by-test false true e = e
+by-test false false e = refl
 
 ret-leaves : (op : Operation) → All (Leaf G.Ret op) (F.ret op)
 unfolding meant
 ret-leaves op =
-    fixed {f = F.form 0xC3 F.no op F.nil F.nil} bare plain plain (λ n a b c. rw (none-used (eqb n 0) c))
-    & fixed {f = F.form 0xC2 F.no op iw F.nil} bare plain plain (λ n a b c. rw (one-used (eqb n 0) c))
+    fixed {f = F.form 0xC3 F.no op F.nil F.nil} bare plain plain (λ n a b c. rw (by-test (eqb n 0) true c))
+    & fixed {f = F.form 0xC2 F.no op iw F.nil} bare plain plain (λ n a b c. rw (by-test (eqb n 0) false c))
     & end
 
 load-leaves : (g : Group) → rule g .means ≡ ofAddress → ((n : ℕ) → unusedBy (rule g .special) n ≡ false) → (c : ℕ) (op : Operation) → All (Leaf g op) (F.load c op)
@@ -279,18 +284,19 @@ load-leaves g e u c op = fixed {f = F.form c F./r op (reg word) F.mem} reg-rm pl
 
 shift-leaves : (n : ℕ) (op : Operation) → All (Leaf G.Shift op) (F.shift n op)
 shift-leaves n op =
-    own (of-first (λ a b o. refl) (λ k. refl) (λ op a b. refl)) rm-digit rm-sized plain one-count
-    & own (of-first (λ a b o. refl) (λ k. refl) (λ op a b. refl)) rm-digit rm-sized plain one-count
-    & own (of-first (λ a b o. refl) (λ k. refl) (λ op a b. refl)) rm-digit rm-sized plain CL-count
-    & own (of-first (λ a b o. refl) (λ k. refl) (λ op a b. refl)) rm-digit rm-sized plain CL-count
+    let t : OfFirst G.Shift count = of-first (λ a b o. refl) (λ k. refl) (λ op a b. refl) in
+    own t rm-digit rm-sized plain one-count
+    & own t rm-digit rm-sized plain one-count
+    & own t rm-digit rm-sized plain CL-count
+    & own t rm-digit rm-sized plain CL-count
     & end
 
 -- CALL and JMP: near, far, through a register or memory
-near-kind : {A : Type 0} (j : JumpKind) (n f : A) → byJump j true false true false ≡ true → n ≡ byJump j n f n n
-near-kind J.None n f e = refl
-near-kind J.Far n f e = false-true e
-near-kind J.Near n f e = refl
-near-kind J.Short n f e = false-true e
+near-kind : {A : Type 0} (j : JumpKind) (near short : Bool) (n f : A) → byJump j true false near short ≡ true → n ≡ byJump j n f n n
+near-kind J.None near short n f e = refl
+near-kind J.Far near short n f e = false-true e
+near-kind J.Near near short n f e = refl
+near-kind J.Short near short n f e = refl
 
 far-kind : {A : Type 0} (j : JumpKind) (n f : A) → byJump j false true false false ≡ true → f ≡ byJump j n f n n
 far-kind J.None n f e = false-true e
@@ -298,19 +304,10 @@ far-kind J.Far n f e = refl
 far-kind J.Near n f e = false-true e
 far-kind J.Short n f e = false-true e
 
-short-kind : {A : Type 0} (j : JumpKind) (n f : A) → byJump j true false false true ≡ true → n ≡ byJump j n f n n
-short-kind J.None n f e = refl
-short-kind J.Far n f e = false-true e
-short-kind J.Near n f e = false-true e
-short-kind J.Short n f e = refl
-
-near-goes : (op : Operation) (z : OperandSize) (o : OperandData) → takes cw z o ≡ true
+-- what cw takes, and cb
+near-goes : (op : Operation) (near short : Bool) (o : OperandData) → ifImm o (byJump (o .«jmp_kind») true false near short) ≡ true
     → canonical op S.Unspecified (nearTarget o) O.None ≡ ofTransfer op o o
-near-goes op z o e = let k = imm-taken (o .kind) _ e in rw (k .0) (near-kind (o .«jmp_kind») _ _ (k .1))
-
-short-goes : (op : Operation) (z : OperandSize) (o : OperandData) → takes cb z o ≡ true
-    → canonical op S.Unspecified (nearTarget o) O.None ≡ ofTransfer op o o
-short-goes op z o e = let k = imm-taken (o .kind) _ e in rw (k .0) (short-kind (o .«jmp_kind») _ _ (k .1))
+near-goes op near short o e = let k = imm-taken (o .kind) _ e in rw (k .0) (near-kind (o .«jmp_kind») near short _ _ (k .1))
 
 far-goes : (op : Operation) (z : OperandSize) (o : OperandData) → takes ptr z o ≡ true
     → canonical op S.Unspecified (farTarget o) O.None ≡ ofTransfer op o o
@@ -322,7 +319,7 @@ through-goes op z o e = ⊎-elim (λ k. by-kind (inl k)) (λ k. by-kind (inr k))
   where
     by-kind : (o .kind ≡ K.Reg) ⊎ (o .kind ≡ K.Mem) → canonical op S.Word (counted S.Word o) O.None ≡ ofTransfer op o o
     by-kind (inl k) = rw k
-    by-kind (inr k) = rw k (near-kind (o .«jmp_kind») _ _ (both-true (byJump (o .«jmp_kind») true false true false) _ (rm-taken (o .kind) _ e .1) .0))
+    by-kind (inr k) = rw k (near-kind (o .«jmp_kind») true false _ _ (both-true (byJump (o .«jmp_kind») true false true false) _ (rm-taken (o .kind) _ e .1) .0))
 
 far-through-goes : (op : Operation) (z : OperandSize) (o : OperandData) → takes mem-far z o ≡ true
     → canonical op S.Unspecified (counted S.Word o) O.None ≡ ofTransfer op o o
@@ -334,7 +331,7 @@ far-through-goes op z o e =
 call-leaves : (op : Operation) → All (Leaf G.Call op) (F.call op)
 unfolding meant
 call-leaves op =
-    record { arranged = branch; operation-is = refl; means = λ n a b c h k. near-goes op (a .size) a h }
+    record { arranged = branch; operation-is = refl; means = λ n a b c h k. near-goes op true false a h }
     & record { arranged = rm-digit; operation-is = refl; means = λ n a b c h k. through-goes op (a .size) a h }
     & record { arranged = rm-digit; operation-is = refl; means = λ n a b c h k. far-through-goes op (a .size) a h }
     & end
@@ -342,9 +339,9 @@ call-leaves op =
 jump-leaves : (op : Operation) → All (Leaf G.Jmp op) (F.jump op)
 unfolding meant
 jump-leaves op =
-    record { arranged = branch; operation-is = refl; means = λ n a b c h k. near-goes op (a .size) a h }
+    record { arranged = branch; operation-is = refl; means = λ n a b c h k. near-goes op true false a h }
     & record { arranged = bare; operation-is = refl; means = λ n a b c h k. far-goes op (a .size) a h }
-    & record { arranged = branch; operation-is = refl; means = λ n a b c h k. short-goes op (a .size) a h }
+    & record { arranged = branch; operation-is = refl; means = λ n a b c h k. near-goes op false true a h }
     & record { arranged = rm-digit; operation-is = refl; means = λ n a b c h k. through-goes op (a .size) a h }
     & end
 
@@ -362,10 +359,11 @@ translate-leaves op = fixed bx-al plain plain (λ n a b c. refl) & end
 
 input-leaves : (op : Operation) → All (Leaf G.In op) (F.input op)
 input-leaves op =
-    own (of-first (λ a b o. refl) (λ k. refl) (λ op a b. refl)) bare acc-sized plain ib-port
-    & own (of-first (λ a b o. refl) (λ k. refl) (λ op a b. refl)) bare acc-sized plain ib-port
-    & own (of-first (λ a b o. refl) (λ k. refl) (λ op a b. refl)) bare acc-sized plain DX-port
-    & own (of-first (λ a b o. refl) (λ k. refl) (λ op a b. refl)) bare acc-sized plain DX-port
+    let t : OfFirst G.In port = of-first (λ a b o. refl) (λ k. refl) (λ op a b. refl) in
+    own t bare acc-sized plain ib-port
+    & own t bare acc-sized plain ib-port
+    & own t bare acc-sized plain DX-port
+    & own t bare acc-sized plain DX-port
     & end
 
 -- OUT: of the second operand's size

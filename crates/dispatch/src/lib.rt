@@ -43,7 +43,7 @@ pub fn decide(group: Group, insn: InstructionData) -> Decision
         Group::Xlat => group_transfer::encode_group_xlat(dst, src),
         Group::In => group_transfer::encode_group_in(dst, src),
         Group::Out => group_transfer::encode_group_out(dst, src),
-        Group::Unsupported => lines::plain(Line::LeftOpen),
+        Group::Unsupported => lines::plain(Line::NotSupported),
     }
 }
 

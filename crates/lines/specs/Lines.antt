@@ -97,7 +97,7 @@ linePlan L.SizeNotSpecifiedFirst w imm stored base = P.Refused W.OperandSizeNotS
 linePlan L.SizesDoNotMatch w imm stored base = P.Refused W.OperandSizesDoNotMatch At.Operands
 linePlan L.InvalidSize w imm stored base = P.Refused W.InvalidOperandSize At.First
 linePlan L.TargetOutOfRange w imm stored base = P.Refused W.TargetOutOfRange At.First
-linePlan L.LeftOpen w imm stored base = P.Refused W.NotSupported At.Operands
+linePlan L.NotSupported w imm stored base = P.Refused W.NotSupported At.Operands
 
 abbrev pub decision : Line → DataSize → Decision
 decision l z = record { line = l; size = z }

@@ -102,7 +102,7 @@ pub enum Line {
     TargetOutOfRange,
 
     // 7: INT1 and ESC, where 000 reaches todo!.
-    LeftOpen,
+    NotSupported,
 }
 
 // What a group decides: the line of the form that a record takes, or why there is none, and its size (Word where the line has none). In 000
@@ -263,7 +263,7 @@ fn line_plan(line: Line, w: u8, imm: Code, stored: Code, base: u8) -> Plan
         Line::SizesDoNotMatch => Plan::Refused(Why::OperandSizesDoNotMatch, At::Operands),
         Line::InvalidSize => Plan::Refused(Why::InvalidOperandSize, At::First),
         Line::TargetOutOfRange => Plan::Refused(Why::TargetOutOfRange, At::First),
-        Line::LeftOpen => Plan::Refused(Why::NotSupported, At::Operands),
+        Line::NotSupported => Plan::Refused(Why::NotSupported, At::Operands),
     }
 }
 

@@ -192,4 +192,4 @@ decisionIn G.Aad k a b = plain L.Aad
 decisionIn G.Xlat k a b = plain (xlatForm (a .kind) (isWord (a .size)) (isBx (a .mode) (a .rm)))
 decisionIn G.In k a b = portDecision L.InAccImm L.InAccDx a b
 decisionIn G.Out k a b = portDecision L.OutImmAcc L.OutDxAcc b a
-decisionIn G.Unsupported k a b = plain L.LeftOpen
+decisionIn G.Unsupported k a b = plain L.NotSupported

@@ -45,12 +45,22 @@ hasDigit F./r d = true
 hasDigit (F./ n) d = eqb d n
 hasDigit F.0A d = true
 
--- what row c says of the forms fs: whether there are none, and the shape of each, at each digit that it has
+-- the shapes of forms at each digit: what row c says where a form has the digit, and each form's own
+abbrev shapeSaid : ℕ → Form → ℕ → Shape
+shapeSaid c f d = pick (hasDigit (f .extension) d) (shapeAt c d) (shapeOf f)
+
+abbrev shapesSaid : ℕ → List Form → List (List Shape)
+shapesSaid c fs = map (λ f. table 8 (shapeSaid c f)) fs
+
+abbrev shapesSeen : List Form → List (List Shape)
+shapesSeen fs = map (λ f. table 8 (λ d. shapeOf f)) fs
+
+-- what row c says of the forms fs: whether there are none, and the shape of each
 abbrev said : ℕ → List Form → Bool × List (List Shape)
-said c fs = (eqb (getD rows c 0) 0, map (λ f. table 8 (λ d. pick (hasDigit (f .extension) d) (shapeAt c d) (shapeOf f))) fs)
+said c fs = (eqb (getD rows c 0) 0, shapesSaid c fs)
 
 abbrev seen : List Form → Bool × List (List Shape)
-seen fs = (empty fs, map (λ f. table 8 (λ d. shapeOf f)) fs)
+seen fs = (empty fs, shapesSeen fs)
 
 -- a row for each first byte
 pub how-many-rows : length rows ≡ 256
@@ -85,7 +95,7 @@ row-unused c h = ap (λ (r : Bool × List (List Shape)). r .0) (row-right c h) �
     go true (f ∷ fs) = refl
     go false fs = refl
 
-each-shape : (c : ℕ) (fs : List Form) → map (λ f. table 8 (λ d. pick (hasDigit (f .extension) d) (shapeAt c d) (shapeOf f))) fs ≡ map (λ f. table 8 (λ d. shapeOf f)) fs
+each-shape : (c : ℕ) (fs : List Form) → shapesSaid c fs ≡ shapesSeen fs
     → {f : Form} → List·Memᴰ f fs → (d : ℕ) → d < 8 → hasDigit (f .extension) d ≡ true → shapeOf f ≡ shapeAt c d
 each-shape c [] e m d l h = absurd (List·Memᴰ·not-nil m)
 each-shape c (g ∷ fs) e {f} m d l h = ⊎-elim (λ z. at-head z) (λ k. each-shape c fs (cc) k d l h) (List·Memᴰ·cases-cons m)
@@ -93,7 +103,7 @@ each-shape c (g ∷ fs) e {f} m d l h = ⊎-elim (λ z. at-head z) (λ k. each-s
     at-head : f ≡ g → shapeOf f ≡ shapeAt c d
     at-head z =
         let q : hasDigit (g .extension) d ≡ true = rw z at h in
-        let r : pick (hasDigit (g .extension) d) (shapeAt c d) (shapeOf g) ≡ shapeOf g = table-at 8 (λ d. pick (hasDigit (g .extension) d) (shapeAt c d) (shapeOf g)) (λ d. shapeOf g) (cc) d l in
+        let r : shapeSaid c g d ≡ shapeOf g = table-at 8 (shapeSaid c g) (λ d. shapeOf g) (cc) d l in
         rw z (sym (rw q at r))
 
 -- each form has its row's shape at each digit that it has, but for NOP at 90
@@ -101,8 +111,7 @@ pub row-shape : (c : ℕ) → c < 256 → (c ≡ 0x90 → ⊥) → {f : Form} �
 row-shape c h n {f} m d l k = go (eqb c 0x90) refl (ap (λ (r : Bool × List (List Shape)). r .1) (row-right c h))
   where
     go : (b : Bool) → eqb c 0x90 ≡ b
-        → map (λ f. table 8 (λ d. pick (hasDigit (f .extension) d) (shapeAt c d) (shapeOf f))) (pick b (take 1 (startingWith c)) (startingWith c))
-        ≡ map (λ f. table 8 (λ d. shapeOf f)) (pick b (take 1 (startingWith c)) (startingWith c))
+        → shapesSaid c (pick b (take 1 (startingWith c)) (startingWith c)) ≡ shapesSeen (pick b (take 1 (startingWith c)) (startingWith c))
         → shapeOf f ≡ shapeAt c d
     go true q e = absurd (n (eqb-true c 0x90 q))
     go false q e = each-shape c (startingWith c) e m d l k
