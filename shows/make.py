@@ -122,8 +122,8 @@ def text_refusal(answers):
     return f'{answer}\n' if answer.endswith('-') else f'refused {number} {k}\n'
 
 
-# ---- the cases of the gate. Bytes and refusals are those of document 01 (bench sheet, questions, code list) and of document 02, No. 1, unless another source
-# is named.
+# ---- the cases of the gate. Bytes and refusals are those of document 01 (bench sheet, questions, code list) and of document 02, Nos. 1 and 2, unless another
+# source is named.
 AAM = 'AAM | D4 0A'
 MOV = 'MOV AX,4660 | B8 34 12'
 REFUSED = {
@@ -131,7 +131,7 @@ REFUSED = {
     2: ['NOT [BX] | refused 2'],
     3: ['MOV AX,BL | refused 3'],
     4: ['POP 5 | refused 4'],
-    5: ['ADD AX,-1 | refused 5'],
+    5: ['MOV byte [BX],300 | refused 5'],
     6: ['JE 60000 | refused 6'],
     7: ['INT1 | refused 7'],
     8: [AAM, 'field count 3', 'answer refused 8'],
@@ -139,11 +139,14 @@ REFUSED = {
 }
 # the first number that is no code: 99 operations; kinds, sizes and jump kinds from 0
 UNKNOWN = {'operation': 99, 'kind1': 4, 'size1': 3, 'displacement-size1': 3, 'jump1': 4, 'kind2': 4, 'size2': 3, 'displacement-size2': 3, 'jump2': 4}
-# what the forms of document 02, No. 1, turn away
+# what document 02, Nos. 1 and 2, turn away
 ADDED_REFUSED = ['TEST BL,300 | refused 5', 'TEST AX,65536 | refused 5', 'TEST [BX],5 | refused 2', 'TEST AX,CL | refused 3', 'TEST AX,DS | refused 1',
     'PUSH byte [BX] | refused 1', 'PUSH [BX] | refused 1', 'POP byte [BX] | refused 4', 'POP [BX] | refused 4', 'RET -1 | refused 5', 'RET 65536 | refused 5',
     'RET AX | refused 1', 'RET word [BX] | refused 1', 'CALL far byte [BX] | refused 1', 'CALL far AX | refused 1', 'JMP short 30000 | refused 6',
-    'JMP short -1 | refused 5', 'JMP short 65536 | refused 5', 'JMP short [BX] | refused 1', 'ESC | refused 7']
+    'JMP short -1 | refused 5', 'JMP short 65536 | refused 5', 'JMP short [BX] | refused 1', 'ESC | refused 7', 'ADD BX,-129 | refused 5', 'SUB word [BX],-129 | refused 5', 'ADD BL,-1 | refused 5', 'MOV BX,-1 | refused 5']
+# the SDM's 83 /0 to /7
+NEGATIVE = ['ADD BX,-1 | 83 C3 FF', 'OR CX,-2 | 83 C9 FE', 'ADC word [BX],-128 | 83 17 80', 'SBB DX,-3 | 83 DA FD', 'AND word [BX+SI+2],-16 | 83 60 02 F0',
+    'SUB word [1536],-1 | 83 2E 00 06 FF', 'XOR AX,-1 | 83 F0 FF', 'CMP AX,-128 | 83 F8 80', 'ADD AX,65535 | 05 FF FF', 'CMP word [BX],65535 | 81 3F FF FF']
 
 
 def sampled():
@@ -160,6 +163,7 @@ def cases():
         yield f'refused-{number}-first', ['origin 256', *bad, MOV, AAM]
         yield f'refused-{number}-middle', ['origin 256', MOV, *bad, AAM]
         yield f'refused-{number}-last', ['origin 256', MOV, AAM, *bad]
+    yield 'negative', ['origin 256', *NEGATIVE]
     for k, bad in enumerate(ADDED_REFUSED):
         yield f'added-refused-{k}', ['origin 65533', MOV, bad, AAM]
     yield 'the-first-refused', [MOV, *REFUSED[5], *REFUSED[7]]

@@ -4,11 +4,11 @@ bench_sheet.py lists > crates/vectors/data/lists.txt
 bench_sheet.py sample < SAMPLE > crates/vectors/data/sample.txt     (needs nasm 2.16)
 
 Writes the rows that the program `vectors` runs. For the encoder: the bench sheet's rows, the example of 'Show file', and the sentences of
-document 01 and of document 02, No. 1, that give a record's bytes or refusal; the expected values are those documents' and the SDM's, and a row's name tells
-the sentence. For the lister: the bench sheet's lists, marked 01, lists that No. 1 tells of, marked 02, and lists put together by hand from the SDM's opcode tables.
+document 01 and of document 02, Nos. 1 and 2, that give a record's bytes or refusal; the expected values are those documents' and the SDM's, and a row's name tells
+the sentence. For the lister: the bench sheet's lists, marked 01, lists that Nos. 1 and 2 tell of, marked 02, and lists put together by hand from the SDM's opcode tables.
 
-The sample is the Rust's answers as differential/run writes them. Where the Rust panics at `todo!`, 7 stands there; its rows of the forms that No. 1 adds get No. 1's
-refusal or NASM's bytes, and say so in their name. All other rows pass through unchanged."""
+The sample is the Rust's answers as differential/run writes them. Where a request of document 02 answers otherwise, the row gets the request's refusal or NASM's bytes, and
+says so in its name: No. 1 where the Rust panics at `todo!`, for which 7 stands there; No. 2 where it refuses -128 to -1 under 83. All other rows pass through unchanged."""
 import pathlib
 import struct
 import subprocess
@@ -116,6 +116,8 @@ def the_lists():
 
     # by hand, from the SDM's opcode tables
     lists('ADD AX,200', 'ADD', [AX, imm(200)], '05 C8 00', '81 C0 C8 00')
+    lists('02: ADD AX,-1', 'ADD', [AX, imm(-1)], '05 FF FF', '83 C0 FF', '81 C0 FF FF')
+    lists('02: ADD AX,65535, the same', 'ADD', [AX, imm(65535)], '05 FF FF', '83 C0 FF', '81 C0 FF FF')
     lists('CMP AX,65535', 'CMP', [AX, imm(65535)], '3D FF FF', '83 F8 FF', '81 F8 FF FF')
     lists('ADD BX,5', 'ADD', [BX, imm(5)], '83 C3 05', '81 C3 05 00')
     lists('ADD AL,200', 'ADD', [AL, imm(200)], '04 C8', '80 C0 C8')
@@ -205,7 +207,7 @@ def the_lists():
     lists('REP', 'REP', [], 'F3')
 
     # refused as the encoder refuses
-    list_row('01: ADD AX,-1 is 5', record('ADD', [AX, imm(-1)]), 0, 5, [])
+    list_row('01: MOV byte [BX],300 is 5', record('MOV', [AT_BX(BYTE), imm(300)]), 0, 5, [])
     list_row('01: count 3 is 8', record('AAM', [], 3), 0, 8, [])
     list_row('02: INT1 is 7', record('INT1', []), 0, 7, [])
     list_row('02: JMP at 65534 to 0, Short, 6', record('JMP', [imm(0, SHORT)]), 65534, 6, [])
@@ -217,7 +219,7 @@ def the_bench_sheet():
     gives('AAM', 'AAM', [], 'D4 0A')
     gives('TEST AL,5', 'TEST', [AL, imm(5)], 'A8 05')
     gives('ADD AX,5', 'ADD', [AX, imm(5)], '83 C0 05')
-    refused('ADD AX,-1', 'ADD', [AX, imm(-1)], 5, SECOND, (-1, 0, 255))
+    gives('ADD AX,-1, by No. 2', 'ADD', [AX, imm(-1)], '83 C0 FF')
     gives('ADD BX,200', 'ADD', [BX, imm(200)], '81 C3 C8 00')
     gives('Word ADD [BX],5', 'ADD', [AT_BX(WORD), imm(5)], '83 07 05')
     gives('XCHG CL,AL', 'XCHG', [CL, AL], '86 C8')
@@ -258,7 +260,6 @@ def the_bench_sheet():
     refused('PUSH AL', 'PUSH', [AL], 1, FIRST)
     refused('IN with no size', 'IN', [reg(ANY, 0), imm(5)], 1, INSTRUCTION)
     refused('OUT DL,AL', 'OUT', [reg(BYTE, 2), AL], 1, INSTRUCTION)
-    refused('ADD BX,-128', 'ADD', [BX, imm(-128)], 5, SECOND, (-128, 0, 255))
 
     # 'Code list' and 'Operand'
     gives('ADD AX,127', 'ADD', [AX, imm(127)], '83 C0 7F')
@@ -381,11 +382,31 @@ def the_bench_sheet():
     gives('WAIT', 'WAIT', [], '9B')
     gives('WAIT 5', 'WAIT', [imm(5)], '9B')
 
+    # document 02, No. 2: the SDM's 83 /0 to /7
+    for operation, register, memory in (('ADD', 'C3', '07'), ('OR', 'CB', '0F'), ('ADC', 'D3', '17'), ('SBB', 'DB', '1F'), ('AND', 'E3', '27'),
+                                        ('SUB', 'EB', '2F'), ('XOR', 'F3', '37'), ('CMP', 'FB', '3F')):
+        gives(f'{operation} BX,-1', operation, [BX, imm(-1)], f'83 {register} FF')
+        gives(f'{operation} BX,-128', operation, [BX, imm(-128)], f'83 {register} 80')
+        refused(f'{operation} BX,-129', operation, [BX, imm(-129)], 5, SECOND, (-129, 0, 65535))
+        gives(f'{operation} word [BX],-1', operation, [AT_BX(WORD), imm(-1)], f'83 {memory} FF')
+        refused(f'{operation} word [BX],-129', operation, [AT_BX(WORD), imm(-129)], 5, SECOND, (-129, 0, 65535))
+        refused(f'{operation} BL,-1', operation, [reg(BYTE, 3), imm(-1)], 5, SECOND, (-1, 0, 255))
+        refused(f'{operation} byte [BX],-1', operation, [AT_BX(BYTE), imm(-1)], 5, SECOND, (-1, 0, 255))
+    gives('ADD AX,-128', 'ADD', [AX, imm(-128)], '83 C0 80')
+    refused('ADD AX,-129', 'ADD', [AX, imm(-129)], 5, SECOND, (-129, 0, 65535))
+    gives('ADD AX,65535 is not 83', 'ADD', [AX, imm(65535)], '05 FF FF')
+    gives('ADD BX,65535 is not 83', 'ADD', [BX, imm(65535)], '81 C3 FF FF')
+    gives('ADD BX,65408 is not 83', 'ADD', [BX, imm(65408)], '81 C3 80 FF')
+    gives('ADD word CS:[BP+SI-2],-3', 'ADD', [mem(WORD, 1, 2, -2, 0x2E), imm(-3)], '2E 83 42 FE FD')
+    refused('MOV AX,-1', 'MOV', [AX, imm(-1)], 5, SECOND, (-1, 0, 65535))
+    refused('ADD AX,65536', 'ADD', [AX, imm(65536)], 5, SECOND, (65536, 0, 65535))
+
 
 # ---- the sample
 NAMES = {BYTE: 'al cl dl bl ah ch dh bh'.split(), WORD: 'ax cx dx bx sp bp si di'.split()}
 BASES = 'bx+si bx+di bp+si bp+di si di bp bx'.split()
 SIZES = {ANY: '', BYTE: 'byte ', WORD: 'word '}
+EIGHT = 'ADD OR ADC SBB AND SUB XOR CMP'.split()
 PREFIXES = {0: '', 0x26: 'es ', 0x2E: 'cs ', 0x36: 'ss ', 0x3E: 'ds '}
 
 
@@ -409,7 +430,7 @@ def assembled(text, offset):
 
 
 def by_request(operation, offset, spans, first, second):
-    """What No. 1 answers to a record on which 000 panics: number, span and values, or NASM's bytes."""
+    """What a request answers to a record on which 000 panics (No. 1) or refuses -128 to -1 under 83 (No. 2): number, span and values, or NASM's bytes."""
     instruction, at_first, at_second = spans
     size = first[1] or second[1]
     value, distance, highest = first[7], first[7] - (offset + 2), 256**size - 1
@@ -429,7 +450,7 @@ def by_request(operation, offset, spans, first, second):
         'CALL': lambda: f'far {text_of(first, ANY)}',
         'JMP': lambda: f'short {text_of(first, ANY)}',
         'WAIT': lambda: '',
-    }[operation]()
+    }.get(operation, lambda: f'{text_of(first, size)},strict byte {second[7]}')()
     prefix = next((o[2] for o in (first, second) if o[0] == MEM), 0) if '[' in text else 0
     written = assembled(f'{PREFIXES[prefix]}{operation} {text}', offset)
     return dict(number=0, length=len(written), written=written)
@@ -440,13 +461,17 @@ def the_sample():
         packed, offset, number = line.split()[:3]
         packed, offset = bytes.fromhex(packed), int(offset, 16)
         operation = OPERATIONS[packed[0]]
-        if number != '07' or operation in ('INT1', 'ESC'):
-            print(line)
-            continue
         *first, a, b = struct.unpack_from('<BBBBBBBiiII', packed, 10)
         *second, c, d = struct.unpack_from('<BBBBBBBiiII', packed, 33)
         spans = struct.unpack_from('<II', packed, 2), (a, b), (c, d)
-        row(f'{operation}, document 02, No. 1', packed, offset, **by_request(operation, offset, spans, first, second))
+        if number == '07' and operation not in ('INT1', 'ESC'):
+            request = 1
+        elif number == '05' and operation in EIGHT and WORD in (first[1], second[1]) and -128 <= second[7] < 0:
+            request = 2
+        else:
+            print(line)
+            continue
+        row(f'{operation}, document 02, No. {request}', packed, offset, **by_request(operation, offset, spans, first, second))
 
 
 {'lists': the_lists, 'sample': the_sample}.get(''.join(sys.argv[1:]), the_bench_sheet)()

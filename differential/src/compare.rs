@@ -1,7 +1,7 @@
 //! One record, both encoders, and the account of it.
 
 use super::answers::{self, Answer, Run};
-use super::differences::{Kind, EMITTED_BEFORE_FAILING, ENTRIES, LEFT_OPEN, TODO};
+use super::differences::{Kind, EMITS, ENTRIES, LEFT_OPEN, PANICS};
 use super::forms::{self, Tally};
 use super::left_open;
 use super::oracle::{self, Oracle};
@@ -72,10 +72,10 @@ impl Comparison {
                 continue;
             }
             self.met[at] += 1;
-            explained_todo += (entry.id == TODO || entry.kind == Kind::Filled) as u32;
-            explained_emitted |= entry.id == EMITTED_BEFORE_FAILING;
+            explained_todo += PANICS.contains(&entry.id) as u32;
+            explained_emitted |= EMITS.contains(&entry.id);
             let ours = (entry.ours)(record, offset, theirs);
-            let otherwise = matches!(entry.kind, Kind::Answer | Kind::Filled);
+            let otherwise = matches!(entry.kind, Kind::Answer | Kind::Request);
             if !(entry.theirs)(record, theirs) || (ours != theirs.answer) != otherwise {
                 let text = format!("{}: 000 does {} there, ours is stated as {}", entry.id, told(&theirs.answer), told(&ours));
                 self.fail(record, offset, &text);
@@ -91,7 +91,7 @@ impl Comparison {
         let emitted = theirs.emitted > 0 && matches!(theirs.answer, Answer::Refused(_));
         // one entry, and no more, has each record on which 000 panics
         if theirs.panicked as u32 != explained_todo || emitted != explained_emitted {
-            self.fail(record, offset, "a panic at todo! or emitted-before-failing is not where it is listed");
+            self.fail(record, offset, "a panic at todo!, or bytes emitted before a refusal, not where they are listed");
         }
         stated.unwrap_or(theirs.answer)
     }
@@ -211,9 +211,8 @@ impl Comparison {
         println!("docs/DIFFERENCES.md by entry:");
         for (entry, count) in ENTRIES.iter().zip(&self.met) {
             let kind = match entry.kind {
-                Kind::Answer | Kind::Filled | Kind::Manner => "difference",
+                Kind::Answer | Kind::Request | Kind::Manner => "difference",
                 Kind::Agrees => "agrees",
-                Kind::Kept => "kept",
             };
             println!("  {:<28} {:<10} {}", entry.id, kind, count);
             if *count == 0 {

@@ -9,16 +9,14 @@ use super::records::{op, Operand, Record, BYTE, FAR, IMM, MEM, NONE, REG, SEG, S
 
 #[derive(Clone, Copy, PartialEq, Eq)]
 pub enum Kind {
-    /// ours answers otherwise
+    /// ours answers otherwise, by document 01
     Answer,
-    /// ours answers by document 02, No. 1, where 000 panics at `todo!`
-    Filled,
+    /// ours answers otherwise, by a request of document 02
+    Request,
     /// ours refuses as 000 does, but 000 panics or has emitted bytes by then
     Manner,
     /// document 01 names it, and 000 answers the same
     Agrees,
-    /// 000's answer is odd, and ours by decision too
-    Kept,
 }
 
 pub struct Entry {
@@ -33,8 +31,14 @@ pub struct Entry {
 }
 
 pub const EMITTED_BEFORE_FAILING: &str = "emitted-before-failing";
+pub const SIGN_EXTENDED_NEGATIVE: &str = "sign-extended-negative";
 pub const LEFT_OPEN: &str = "left-open";
+pub const CALL_FAR_BYTE_MEMORY: &str = "call-far-byte-memory";
 pub const TODO: &str = "todo";
+/// Where 000 panics.
+pub const PANICS: [&str; 3] = [TODO, LEFT_OPEN, CALL_FAR_BYTE_MEMORY];
+/// Where 000 has emitted bytes when it refuses.
+pub const EMITS: [&str; 2] = [EMITTED_BEFORE_FAILING, SIGN_EXTENDED_NEGATIVE];
 
 pub static ENTRIES: &[Entry] = &[
     Entry {
@@ -176,15 +180,15 @@ pub static ENTRIES: &[Entry] = &[
     },
     Entry {
         id: LEFT_OPEN,
-        kind: Kind::Filled,
+        kind: Kind::Request,
         operations: &[op::TEST, op::PUSH, op::POP, op::RET, op::CALL, op::JMP, op::WAIT],
         applies: |r, offset| left_open::answer(r, offset).is_some(),
         theirs: |_, o| o.panicked,
         ours: |r, offset, o| left_open::answer(r, offset).unwrap_or(o.answer),
     },
     Entry {
-        id: "call-far-byte-memory",
-        kind: Kind::Filled,
+        id: CALL_FAR_BYTE_MEMORY,
+        kind: Kind::Request,
         operations: &[op::CALL],
         applies: |r, _| r.operands[0].kind == MEM && r.operands[0].jump == FAR && r.operands[0].size == BYTE,
         theirs: |_, o| o.panicked,
@@ -243,16 +247,19 @@ pub static ENTRIES: &[Entry] = &[
         ours: |r, _, _| answers::refused(4, r.operands[0].span),
     },
     Entry {
-        id: "sign-extended-negative",
-        kind: Kind::Kept,
+        id: SIGN_EXTENDED_NEGATIVE,
+        kind: Kind::Request,
         operations: &ARITHMETIC,
         applies: |r, _| {
             let [first, second] = &r.operands;
             let word_immediate = r.common_size() == Some(WORD) && first.is_rm() && second.kind == IMM;
             word_immediate && (-128..0).contains(&second.imm)
         },
-        theirs: |r, o| o.answer == answers::out_of_range(r.operands[1].span, r.operands[1].imm, 0, 255),
-        ours: |r, _, _| answers::out_of_range(r.operands[1].span, r.operands[1].imm, 0, 255),
+        theirs: |r, o| o.emitted > 0 && o.answer == answers::out_of_range(r.operands[1].span, r.operands[1].imm, 0, 255),
+        ours: |r, _, _| {
+            let n = ARITHMETIC.iter().position(|operation| *operation == r.operation).unwrap() as u8;
+            with_modrm(0x83, n, &r.operands[0], &[r.operands[1].imm as u8])
+        },
     },
 ];
 
@@ -308,7 +315,8 @@ fn fails_after_emitting(r: &Record, offset: u16) -> bool {
             && second.kind == IMM
             && match r.common_size() {
                 Some(BYTE) => !is_byte(second.imm),
-                Some(_) => (-128..0).contains(&second.imm) || !is_word(second.imm),
+                // -128 to -1 is sign-extended-negative
+                Some(_) => !is_word(second.imm) && !(-128..0).contains(&second.imm),
                 None => false,
             }
     } else if operation == op::MOV {

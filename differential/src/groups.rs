@@ -2,6 +2,7 @@
 
 use super::records::op::*;
 
+/// In the order of their /n.
 pub const ARITHMETIC: [u8; 8] = [ADD, OR, ADC, SBB, AND, SUB, XOR, CMP];
 
 /// Jcc in the order of their opcodes, 70 to 7F.

@@ -1,6 +1,6 @@
 //! A fixed sample of 000's answers as text, one record a row, for the program `vectors`, which has no Rust beside it. A row is a line of 224 bytes: record, offset,
-//! refusal number (0: accepted), length, span start and end, value, low, high, bytes, each in hexadecimal, then the operation's name. `todo!` stands as 7; `tools/bench_sheet.py sample`
-//! puts No. 1's answers there.
+//! refusal number (0: accepted), length, span start and end, value, low, high, bytes, each in hexadecimal, then the operation's name. `todo!` stands as 7. Where a
+//! request of document 02 answers otherwise, `tools/bench_sheet.py sample` puts its answer.
 
 use super::answers::{self, Answer, Refusal};
 use super::differences::{Kind, ENTRIES};

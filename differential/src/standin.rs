@@ -1,5 +1,5 @@
 //! A STAND-IN for our encoder, only for `build --standin`: it tests the driver while there is no library, and proves nothing.
-//! Written from document 01 with document 02, No. 1, in the order of the questions, and not from 000.
+//! Written from document 01 with document 02, Nos. 1 and 2, in the order of the questions, and not from 000.
 
 use super::answers::{self, Answer, Span};
 use super::groups::{ARITHMETIC, CONDITIONAL, LOOPS};
@@ -218,16 +218,16 @@ fn arithmetic(i: u8, w: u8, a: &Operand, b: &Operand, none: Answer) -> Answer {
         (REG | MEM, REG) => modrm(base + w, b.rm, a, &[]),
         (REG, MEM) => modrm(base + 2 + w, a.rm, b, &[]),
         (REG | MEM, IMM) => {
-            let byte = w == 0 || (-128..=127).contains(&b.imm);
-            let (width, high) = if byte { (1, 255) } else { (2, 65535) };
-            if !(0..=high).contains(&b.imm) {
-                return answers::out_of_range(b.span, b.imm, 0, high);
+            if w == 1 && (-128..=127).contains(&b.imm) {
+                return modrm(0x83, i, a, &b.imm.to_le_bytes()[..1]);
             }
-            let tail = &b.imm.to_le_bytes()[..width];
-            match (w, byte) {
-                (1, true) => modrm(0x83, i, a, tail),
-                _ if a.kind == REG && a.rm == 0 => ranged(&[base + 4 + w], width, b.imm, 0, high, b.span),
-                _ => modrm(0x80 + w, i, a, tail),
+            let (width, high) = if w == 0 { (1, 255) } else { (2, 65535) };
+            if !(0..=high).contains(&b.imm) {
+                answers::out_of_range(b.span, b.imm, 0, high)
+            } else if a.kind == REG && a.rm == 0 {
+                ranged(&[base + 4 + w], width, b.imm, 0, high, b.span)
+            } else {
+                modrm(0x80 + w, i, a, &b.imm.to_le_bytes()[..width])
             }
         }
         _ => none,

@@ -3,6 +3,7 @@
 use crate::answers::{Answer, Run};
 use crate::forms::{self, form_of};
 use crate::generate::{self, Depth, Visit};
+use crate::groups::ARITHMETIC;
 use crate::ours;
 use crate::random;
 use crate::records::{mix, op, Record, BYTE, NONE, SHORT, UNSTATED, WORD};
@@ -38,6 +39,7 @@ pub fn sample(of_each: usize, random: u64) -> Vec<Accepted> {
     generate::systematic(Depth::Short, &mut visit);
     branches(&mut visit);
     no_1(&mut visit);
+    no_2(&mut visit);
     random::records(random, SEED, &mut visit);
     kept.into_values().flat_map(|(_, records)| records).collect()
 }
@@ -76,5 +78,16 @@ fn no_1(visit: &mut Visit) {
     }
     for value in -3..=259 {
         visit(generate::record(op::TEST, 2, shapes::register(BYTE, NONE, 0, 0), immediate(NONE, value)), 0);
+    }
+}
+
+/// Every value that 83 takes, and those beside them, of a register and of memory, by each of its eight operations.
+fn no_2(visit: &mut Visit) {
+    for operation in ARITHMETIC {
+        for value in -130..=129 {
+            for first in [shapes::register(WORD, NONE, 3, 0), shapes::memory(WORD, NONE, 0, 1, 6, -2, 0)] {
+                visit(generate::record(operation, 2, first, shapes::immediate(UNSTATED, NONE, value, 0)), 0);
+            }
+        }
     }
 }

@@ -1,7 +1,7 @@
 //! None missing, from outside: all strings of 1 to 3 bytes that our table reads, grouped by what a disassembler says that they mean, are our lists.
 
 use crate::classes::{JOINED_BY_NDISASM, JOINED_BY_ZYDIS};
-use crate::groups::{CONDITIONAL, LOOPS};
+use crate::groups::{ARITHMETIC, CONDITIONAL, LOOPS};
 use crate::library::{self, Read};
 use crate::meaning::{is_shift, Meaning, Operand, CONVENTIONS};
 use crate::records::{self, hex, op, Record, BYTE, FAR, NEAR, NONE, SHORT, UNSTATED, WORD};
@@ -60,7 +60,7 @@ pub fn record_of(meaning: &Meaning) -> Record {
     generate::record(operation, count as u8, operand(0), operand(1))
 }
 
-/// Another record of this meaning, where there is one: the operands the other way round, or another kind of JMP.
+/// Another record of this meaning, where there is one: the operands the other way round, another kind of JMP, or a negative immediate that 83 takes.
 fn also(meaning: &Meaning, record: &Record) -> Option<Record> {
     let mut other = *record;
     match (meaning.operation, meaning.operands) {
@@ -69,6 +69,7 @@ fn also(meaning: &Meaning, record: &Record) -> Option<Record> {
             let near = (-128..=127).contains(&(target as i32 - (OFFSET as i32 + 2)));
             other.operands[0].jump = if near { SHORT } else { NONE };
         }
+        (operation, [_, Operand::Immediate(65408..=65535)]) if ARITHMETIC.contains(&operation) => other.operands[1].imm -= 65536,
         _ => return None,
     }
     Some(other)

@@ -1,5 +1,4 @@
--- The bench sheet's encoder rows (document 01) and those of the forms that 000 leaves open (No. 1), at every offset where the row names none. P marks the rows
--- that 01 marks.
+-- The bench sheet's encoder rows (document 01) and those of document 02's Nos. 1 and 2, at every offset where the row names none. P marks the rows that 01 marks.
 -- Assumes nothing.
 use mathlib.Core.Path.{_≡_, refl}
 use mathlib.Core.Bool.{true}
@@ -90,7 +89,7 @@ pub record Rows (off : ℕ) : Type 0 where
   pub aam : answer (noOperands whole Op.AAM) off ≡ bytes (0xD4 ∷ 0x0A ∷ [])  -- P
   pub test-al-5 : answer (withTwo Op.TEST (registerOperand one 0 S.Byte) (immediate (pos 5))) off ≡ bytes (0xA8 ∷ 0x05 ∷ [])  -- P
   pub add-ax-5 : answer (withTwo Op.ADD ax (immediate (pos 5))) off ≡ bytes (0x83 ∷ 0xC0 ∷ 0x05 ∷ [])  -- P
-  pub add-ax-minus-1 : answer (withTwo Op.ADD ax (immediate (negsuc 0))) off ≡ refused (E.ImmediateOutOfRange two (negsuc 0) (pos 0) (pos 255))  -- P
+  pub add-ax-minus-1 : answer (withTwo Op.ADD ax (immediate (negsuc 0))) off ≡ bytes (0x83 ∷ 0xC0 ∷ 0xFF ∷ [])  -- P, by No. 2
   pub add-bx-200 : answer (withTwo Op.ADD (registerOperand one 3 S.Word) (immediate (pos 200))) off ≡ bytes (0x81 ∷ 0xC3 ∷ 0xC8 ∷ 0x00 ∷ [])
   pub add-word-bx-5 : answer (withTwo Op.ADD (indirectOperand one 7 (pos 0) (OD.Some D.Word) OG.None) (immediate (pos 5))) off ≡ bytes (0x83 ∷ 0x07 ∷ 0x05 ∷ [])  -- P
   pub xchg-cl-al : answer (withTwo Op.XCHG (registerOperand one 1 S.Byte) (registerOperand two 0 S.Byte)) off ≡ bytes (0x86 ∷ 0xC8 ∷ [])  -- P
@@ -105,6 +104,17 @@ pub record Rows (off : ℕ) : Type 0 where
   pub mov-al-bp : answer (withTwo Op.MOV (registerOperand one 0 S.Byte) (indirectOperand two 6 (pos 0) OD.None OG.None)) off ≡ bytes (0x8A ∷ 0x46 ∷ 0x00 ∷ [])  -- P
   pub mov-byte-bx-255 : answer (withTwo Op.MOV (indirectOperand one 7 (pos 0) (OD.Some D.Byte) OG.None) (immediate (pos 255))) off ≡ bytes (0xC6 ∷ 0x07 ∷ 0xFF ∷ [])
   pub mov-byte-bx-300 : answer (withTwo Op.MOV (indirectOperand one 7 (pos 0) (OD.Some D.Byte) OG.None) (immediate (pos 300))) off ≡ refused (E.ImmediateOutOfRange two (pos 300) (negsuc 127) (pos 255))
+  -- No. 2: 83 by the value as written, in a Word alone
+  pub add-ax-65535 : answer (withTwo Op.ADD ax (immediate (pos 65535))) off ≡ bytes (0x05 ∷ 0xFF ∷ 0xFF ∷ [])
+  pub add-ax-127 : answer (withTwo Op.ADD ax (immediate (pos 127))) off ≡ bytes (0x83 ∷ 0xC0 ∷ 0x7F ∷ [])
+  pub add-ax-128 : answer (withTwo Op.ADD ax (immediate (pos 128))) off ≡ bytes (0x05 ∷ 0x80 ∷ 0x00 ∷ [])
+  pub add-bx-minus-128 : answer (withTwo Op.ADD (registerOperand one 3 S.Word) (immediate (negsuc 127))) off ≡ bytes (0x83 ∷ 0xC3 ∷ 0x80 ∷ [])
+  pub add-bx-minus-129 : answer (withTwo Op.ADD (registerOperand one 3 S.Word) (immediate (negsuc 128))) off ≡ refused (E.ImmediateOutOfRange two (negsuc 128) (pos 0) (pos 65535))
+  pub add-word-bx-minus-1 : answer (withTwo Op.ADD (bx one (OD.Some D.Word)) (immediate (negsuc 0))) off ≡ bytes (0x83 ∷ 0x07 ∷ 0xFF ∷ [])
+  pub add-word-bx-minus-129 : answer (withTwo Op.ADD (bx one (OD.Some D.Word)) (immediate (negsuc 128))) off ≡ refused (E.ImmediateOutOfRange two (negsuc 128) (pos 0) (pos 65535))
+  pub add-al-minus-1 : answer (withTwo Op.ADD (registerOperand one 0 S.Byte) (immediate (negsuc 0))) off ≡ refused (E.ImmediateOutOfRange two (negsuc 0) (pos 0) (pos 255))
+  pub add-byte-bx-minus-1 : answer (withTwo Op.ADD (bx one (OD.Some D.Byte)) (immediate (negsuc 0))) off ≡ refused (E.ImmediateOutOfRange two (negsuc 0) (pos 0) (pos 255))
+  pub mov-ax-minus-1 : answer (withTwo Op.MOV ax (immediate (negsuc 0))) off ≡ refused (E.ImmediateOutOfRange two (negsuc 0) (pos 0) (pos 65535))
   -- No. 1
   pub test-ax-bx : answer (withTwo Op.TEST ax (registerOperand two 3 S.Word)) off ≡ bytes (0x85 ∷ 0xD8 ∷ [])
   pub test-bx-ax : answer (withTwo Op.TEST (registerOperand one 3 S.Word) (registerOperand two 0 S.Word)) off ≡ bytes (0x85 ∷ 0xC3 ∷ [])
@@ -165,6 +175,16 @@ rows off = record {
   mov-al-bp = refl;
   mov-byte-bx-255 = refl;
   mov-byte-bx-300 = refl;
+  add-ax-65535 = refl;
+  add-ax-127 = refl;
+  add-ax-128 = refl;
+  add-bx-minus-128 = refl;
+  add-bx-minus-129 = refl;
+  add-word-bx-minus-1 = refl;
+  add-word-bx-minus-129 = refl;
+  add-al-minus-1 = refl;
+  add-byte-bx-minus-1 = refl;
+  mov-ax-minus-1 = refl;
   test-ax-bx = refl;
   test-bx-ax = refl;
   test-bx-cl = refl;

@@ -17,6 +17,7 @@ use Rattle.x86.specs.Reading.{keep, about}
 use Rattle.answers.specs.Records.{sameSize, statedOf}
 use Rattle.groups.specs.declared.Group.{Group}
 use Rattle.answers.specs.Operands.{ifImm, ifReg, ifSeg, ifMem, ifRm}
+use Rattle.answers.specs.Limits.{limits, sign-extended}
 use Rattle.answers.specs.Rules.{Sizing, unasked, either-states, first-states, first-is-word, Special, ordinary, unordered, unordered-memory, by-count, target-first, not-supported, rule}
 
 -- does a slot take the operand o, which counts with the size s?
@@ -39,7 +40,7 @@ takes (moffs w) s o = ifMem o (both (sameSize w s) (isDirectAddress (o .mode) (o
 takes xlat s o = ifMem o (both (eqb (o .mode) 0) (eqb (o .rm) 7))
 takes ib s o = ifImm o true
 takes iw s o = ifImm o true
-takes ib-sx s o = ifImm o (within (negsuc 127) (pos 127) (o .imm))
+takes ib-sx s o = ifImm o (within (limits sign-extended .low) (limits sign-extended .high) (o .imm))
 takes cb s o = ifImm o (byJump (o .«jmp_kind») true false false true)
 takes cw s o = ifImm o (byJump (o .«jmp_kind») true false true false)
 takes ptr s o = ifImm o (byJump (o .«jmp_kind») false true false false)

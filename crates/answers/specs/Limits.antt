@@ -38,13 +38,13 @@ pub record Range : Type 0 where
 abbrev pub to : ℤ → ℤ → Range
 to l h = record { low = l; high = h }
 
--- 83 refuses -128 to -1, as 000 does
+-- 83 is chosen by its limits (Choice), so that no refusal names them
 abbrev pub limits : Kind → Range
 limits data-byte = to (pos 0) (pos 255)
 limits data-word = to (pos 0) (pos 65535)
 limits memory-byte = to (negsuc 127) (pos 255)
 limits memory-word = to (negsuc 32767) (pos 65535)
-limits sign-extended = to (pos 0) (pos 255)
+limits sign-extended = to (negsuc 127) (pos 127)
 limits vector = to (pos 0) (pos 255)
 limits port = to (pos 0) (pos 255)
 limits popped = to (pos 0) (pos 65535)

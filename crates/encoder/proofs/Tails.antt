@@ -25,7 +25,7 @@ use Rattle.answers.specs.Choice.{takes}
 use Rattle.answers.specs.Layout.{byteOf, wordOf, part}
 use Rattle.answers.specs.Limits.{Kind, data-byte, data-word, memory-byte, memory-word, sign-extended, vector, port, popped, address, target, segment, limits, byteKind, wordKind, inLimits, shortDistance, ofSlot}
 use Rattle.answers.specs.Answer.{firstNo, Answer, answered, bytes}
-use Rattle.answers.proofs.Operands.{mem-taken, mem-in-rm, taken-in-rm, taken-reg, taken-seg, taken-mem}
+use Rattle.answers.proofs.Operands.{imm-taken, mem-taken, mem-in-rm, taken-in-rm, taken-reg, taken-seg, taken-mem}
 use Rattle.answers.proofs.Slots.{Field, in-rm, in-reg, in-low3, in-bits34, by-address, by-bx-al, distance, elsewhere, field, placeOf, Bounded}
 use Rattle.plans.specs.Plans.{immediateCode, tail, inLow3}
 use Rattle.fields.specs.Fields.{ranged, operand, codeAnswer, joined, immediateByte, immediateWord, relativeByte, relativeWord}
@@ -59,13 +59,13 @@ isLow3 by-bx-al = false
 isLow3 (distance k) = false
 isLow3 elsewhere = false
 
--- the bytes that an immediate of a kind has, where its code is of a byte or a word and no more
+-- the bytes that an immediate of a kind has, where its code is of a byte or a word and no more, with the limits asked
 abbrev width : Kind → ℕ
 width data-byte = 1
 width data-word = 2
 width memory-byte = 1
 width memory-word = 2
-width sign-extended = 1
+width sign-extended = 0
 width vector = 1
 width port = 1
 width popped = 2
@@ -101,7 +101,7 @@ module _ (insn : InstructionData) (off k : ℕ) where
   immediate-is data-word h = refl
   immediate-is memory-byte h = refl
   immediate-is memory-word h = refl
-  immediate-is sign-extended h = refl
+  immediate-is sign-extended h = absurd (omega arith)
   immediate-is vector h = refl
   immediate-is port h = refl
   immediate-is popped h = refl
@@ -113,6 +113,11 @@ module _ (insn : InstructionData) (off k : ℕ) where
   immediate-asked : (w : Kind) (n : ℕ) → width w ≡ n → 1 ≤ n
       → answered (firstNo (inLimits w (o .imm) o ∷ [])) (pick (eqb n 1) (byteOf (o .imm)) (wordOf (o .imm))) ≡ codeAnswer (immediateCode w k) insn off
   immediate-asked w n e h = rw (limited w (o .imm) (pick (eqb n 1) (byteOf (o .imm)) (wordOf (o .imm))), immediate-is w (omega arith), e)
+
+  -- the byte of 83, which is chosen by its limits
+  extended-asked : (z : OperandSize) → takes ib-sx z o ≡ true
+      → answered (firstNo (inLimits sign-extended (o .imm) o ∷ [])) (byteOf (o .imm)) ≡ codeAnswer (immediateCode sign-extended k) insn off
+  extended-asked z t = rw (limited sign-extended (o .imm) (byteOf (o .imm)), imm-taken (o .kind) _ t .1)
 
   -- a far target: the question about its offset, then the one about its segment
   far-asked : answered (firstNo (inLimits target (o .imm) o ∷ inLimits segment (o .displacement) o ∷ [])) (wordOf (o .imm) ++ wordOf (o .displacement))
@@ -159,7 +164,7 @@ module _ (insn : InstructionData) (off k : ℕ) where
     slot-tied iw z t h q =
         let w = wordKind g (somewhere (about f .place)) in
         slot-by (alone (immediate-asked w 2 (eqb-true (width w) 2 (is-true _ q)) (omega arith))) refl refl tt
-    slot-tied ib-sx z t h q = slot-by (alone (immediate-asked sign-extended 1 refl (omega arith))) refl refl tt
+    slot-tied ib-sx z t h q = slot-by (alone (extended-asked z t)) refl refl tt
     slot-tied cb z t h q = slot-by (alone (first-asked (shortDistance off o) [] (byteOf (distanceOf (o .imm) off 2)))) refl refl tt
     slot-tied cw z t h q = slot-by (alone (limited target (o .imm) (wordOf (distanceOf (o .imm) off 3)))) refl refl tt
     slot-tied ptr z t h q = slot-by (alone far-asked) refl refl tt

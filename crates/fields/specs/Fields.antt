@@ -97,6 +97,7 @@ codeAnswer (C.SegByte k op) insn off = bytes ((op + 8 * (operand insn k .rm % 4)
 codeAnswer (C.MemByte k op) insn off = bytes (prefixBytes (operand insn k .«segment_prefix») ++ (op ∷ []))
 codeAnswer (C.ImmSignedByte k) insn off = immediateByte (negsuc 127) (pos 255) (operand insn k .imm) (operand insn k .span)
 codeAnswer (C.ImmSignedWord k) insn off = immediateWord (negsuc 32767) (pos 65535) (operand insn k .imm) (operand insn k .span)
+codeAnswer (C.ImmSignExtended k) insn off = bytes (byteOf (operand insn k .imm))
 codeAnswer (C.RelWord k) insn off = relativeWord (operand insn k) off
 codeAnswer (C.FarWords k) insn off =
     joined (immediateWord (pos 0) (pos 65535) (operand insn k .imm) (operand insn k .span))

@@ -274,6 +274,10 @@ pub fn fields_of(insn: InstructionData, offset: u16, code: Code) -> Fields
             let oper = operand_of(insn, k);
             word_within(-32768, 65535, oper.imm, oper.span)
         }
+        Code::ImmSignExtended(k) => {
+            let oper = operand_of(insn, k);
+            value_field(Field::Byte(values::low_byte(oper.imm)))
+        }
         Code::RelWord(k) => relative_word(operand_of(insn, k), offset),
         Code::FarWords(k) => far_words(operand_of(insn, k)),
     }

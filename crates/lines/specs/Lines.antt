@@ -40,7 +40,7 @@ twoCodes c d = record { first = c; second = d; count = 2 }
 abbrev pub linePlan : Line → ℕ → Code → Code → ℕ → Plan
 linePlan L.ArithRmReg w imm stored base = P.Emit (oneCode (C.ModRegRM 0 ((base + w) % 256)))
 linePlan L.ArithRegRm w imm stored base = P.Emit (oneCode (C.ModRegRM 1 ((base + (2 + w)) % 256)))
-linePlan L.ArithRmImmSx w imm stored base = P.Emit (twoCodes (C.ModRM 0 0x83 (base / 8)) (C.ImmByte 1))
+linePlan L.ArithRmImmSx w imm stored base = P.Emit (twoCodes (C.ModRM 0 0x83 (base / 8)) (C.ImmSignExtended 1))
 linePlan L.ArithAccImm w imm stored base = P.Emit (twoCodes (C.Byte ((base + (4 + w)) % 256)) imm)
 linePlan L.ArithRmImm w imm stored base = P.Emit (twoCodes (C.ModRM 0 (0x80 + w) (base / 8)) imm)
 linePlan L.UnaryRm w imm stored base = P.Emit (oneCode (C.ModRM 0 (0xF6 + w) base))

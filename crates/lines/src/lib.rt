@@ -199,7 +199,7 @@ fn line_plan(line: Line, w: u8, imm: Code, stored: Code, base: u8) -> Plan
         Line::ArithRegRm => one(Code::ModRegRM(FIRST_OPER_SRC, opcode(base, 2 + w))),
         Line::ArithRmImmSx => two(
             Code::ModRM(FIRST_OPER_DST, 0x83, base / 8),
-            Code::ImmByte(FIRST_OPER_SRC),
+            Code::ImmSignExtended(FIRST_OPER_SRC),
         ),
         Line::ArithAccImm => two(Code::Byte(opcode(base, 4 + w)), imm),
         Line::ArithRmImm => two(Code::ModRM(FIRST_OPER_DST, 0x80 + w, base / 8), imm),

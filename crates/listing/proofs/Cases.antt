@@ -3,7 +3,7 @@
 use mathlib.Core.Path.{_≡_, refl}
 use mathlib.Core.List.{List, [], _∷_}
 use Prim.Native.Nat.{ℕ}
-use lib.IntN.{pos}
+use lib.IntN.{pos, negsuc}
 use Rattle.mrc_compiler.specs.declared.ast.Span.{Span}
 use Rattle.mrc_compiler.specs.declared.ast.OptionDataSize.the-variants as OD
 use Rattle.mrc_compiler.specs.declared.ast.DataSize.the-variants as D
@@ -59,6 +59,11 @@ pub record Rows (off : ℕ) : Type 0 where
   pub xchg-ax-ax : listed off Op.XCHG (registerOperand span 0 S.Word) (registerOperand span 0 S.Word) ≡ (0x90 ∷ []) ∷ (0x87 ∷ 0xC0 ∷ []) ∷ []
   -- 200 is not a byte that 83 extends
   pub add-bx-200 : listed off Op.ADD (registerOperand span 3 S.Word) (immediateOperand span (pos 200)) ≡ (0x81 ∷ 0xC3 ∷ 0xC8 ∷ 0x00 ∷ []) ∷ []
+  -- No. 2: -1 and 65,535 are one instruction; P
+  pub add-ax-minus-1 : listed off Op.ADD (registerOperand span 0 S.Word) (immediateOperand span (negsuc 0))
+      ≡ (0x05 ∷ 0xFF ∷ 0xFF ∷ []) ∷ (0x83 ∷ 0xC0 ∷ 0xFF ∷ []) ∷ (0x81 ∷ 0xC0 ∷ 0xFF ∷ 0xFF ∷ []) ∷ []
+  pub add-ax-65535 : listed off Op.ADD (registerOperand span 0 S.Word) (immediateOperand span (pos 65535))
+      ≡ listed off Op.ADD (registerOperand span 0 S.Word) (immediateOperand span (negsuc 0))
   -- No. 1
   pub test-ax-bx : listed off Op.TEST (registerOperand span 0 S.Word) (registerOperand span 3 S.Word) ≡ (0x85 ∷ 0xD8 ∷ []) ∷ []
   pub test-bx-ax : listed off Op.TEST (registerOperand span 3 S.Word) (registerOperand span 0 S.Word) ≡ (0x85 ∷ 0xC3 ∷ []) ∷ []
@@ -83,6 +88,8 @@ rows off = record {
   xchg-cx-cx = refl;
   xchg-ax-ax = refl;
   add-bx-200 = refl;
+  add-ax-minus-1 = refl;
+  add-ax-65535 = refl;
   test-ax-bx = refl;
   test-bx-ax = refl;
   test-al-5 = refl;

@@ -2,7 +2,7 @@
 // 224 bytes: record, offset, refusal number (0: accepted), length, span start and end, value, low, high, and bytes; the lister's are lines of 352 bytes: record,
 // offset, refusal number, count, and twelve entries. All is hexadecimal and followed by a blank, then comes the row's name. bench_sheet.txt and lists.txt have
 // the values of documents 01 and 02 and the manual's (tools/bench_sheet.py writes them). sample.txt has the Rust's answers (differential/run sample); the rows
-// on which the Rust panics at `todo!` have those of document 02, No. 1, and name it (tools/bench_sheet.py sample).
+// on which a request of document 02 answers otherwise have its answers, and name it (tools/bench_sheet.py sample).
 ghost use mathlib.Core.Path.{_≡_};
 ghost use lib.ListN.{length};
 use libc::STDOUT_FILENO;

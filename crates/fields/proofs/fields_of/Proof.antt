@@ -51,10 +51,15 @@ returns-12 c =
     rw (c .before .before .before .before .code12 .given .1) (rw (e, c .before .before .operand-of11 .ensures) at (c .word-within3 .ensures))
 
 returns-13 : tie.Need-returns-13
-returns-13 c = rw (c .before .before .before .code13 .given .1) (rw (c .before .operand-of12 .ensures) at (c .relative-word .ensures))
+returns-13 c =
+    let e = toZ-ofZ w32 (c .before .before .before .operand-of12 .result .imm) (record { sfits = c .before .before .struct-told6 .given .1 .1 .1 .1 .0 .1 }) in
+    rw (c .before .before .before .before .before .code13 .given .1) (rw (c .before .low-byte .ensures, e, c .before .before .before .operand-of12 .ensures) at (c .value-field4 .ensures))
 
 returns-14 : tie.Need-returns-14
-returns-14 c = rw (c .before .before .before .code14 .given .1) (rw (c .before .operand-of13 .ensures) at (c .far-words .ensures))
+returns-14 c = rw (c .before .before .before .code14 .given .1) (rw (c .before .operand-of13 .ensures) at (c .relative-word .ensures))
+
+returns-15 : tie.Need-returns-15
+returns-15 c = rw (c .before .before .before .code15 .given .1) (rw (c .before .operand-of14 .ensures) at (c .far-words .ensures))
 
 pub fields-of-spec : {M : Type 1} → statement M
-fields-of-spec = tie.close (tie.spec (λ c. search needs) (λ c κs. search needs) (λ c. search needs) (λ c κs. search needs) (λ c κs. search needs) (λ c. search needs) (λ c κs. search needs) (λ c κs. search needs) (λ c. search needs) (λ c κs. search needs) (λ c κs. search needs) (λ c. search needs) (λ c κs. search needs) (λ c κs. search needs) (λ c. search needs) (λ c κs. search needs) (λ c κs. search needs) (λ c κs. search needs) (λ c. search needs) (λ c κs. search needs) (λ c κs. search needs) (λ c. search needs) (λ c κs. search needs) (λ c κs. search needs) (λ c κs. search needs) (λ c. search needs) (λ c κs. search needs) (λ c κs. search needs) (λ c κs. search needs) (λ c. search needs) (λ c κs. search needs) (λ c κs. search needs) (λ c. search needs) (λ c κs. search needs) (λ c κs. search needs) (λ c. search needs) (λ c κs. search needs) (λ c κs. search needs) (λ c. search needs) (λ c κs. search needs) (λ c κs. search needs) (λ c. search needs) (λ c κs. search needs) (λ c κs. search needs) returns returns-2 returns-3 returns-4 returns-5 returns-6 returns-7 returns-8 returns-9 returns-10 returns-11 returns-12 returns-13 returns-14)
+fields-of-spec = tie.close (tie.spec (λ c. search needs) (λ c κs. search needs) (λ c. search needs) (λ c κs. search needs) (λ c κs. search needs) (λ c. search needs) (λ c κs. search needs) (λ c κs. search needs) (λ c. search needs) (λ c κs. search needs) (λ c κs. search needs) (λ c. search needs) (λ c κs. search needs) (λ c κs. search needs) (λ c. search needs) (λ c κs. search needs) (λ c κs. search needs) (λ c κs. search needs) (λ c. search needs) (λ c κs. search needs) (λ c κs. search needs) (λ c. search needs) (λ c κs. search needs) (λ c κs. search needs) (λ c κs. search needs) (λ c. search needs) (λ c κs. search needs) (λ c κs. search needs) (λ c κs. search needs) (λ c. search needs) (λ c κs. search needs) (λ c κs. search needs) (λ c. search needs) (λ c κs. search needs) (λ c κs. search needs) (λ c. search needs) (λ c κs. search needs) (λ c κs. search needs) (λ c. search needs) (λ c κs. search needs) (λ c κs. search needs) (λ c κs. search needs) (λ c. search needs) (λ c κs. search needs) (λ c κs. search needs) (λ c. search needs) (λ c κs. search needs) (λ c κs. search needs) returns returns-2 returns-3 returns-4 returns-5 returns-6 returns-7 returns-8 returns-9 returns-10 returns-11 returns-12 returns-13 returns-14 returns-15)

@@ -37,6 +37,9 @@ pub enum Code {
     ImmSignedByte(u8),
     ImmSignedWord(u8),
 
+    // Emits the low byte of the operand's imm, which is -128 to 127: the processor sign-extends it to a word (83).
+    ImmSignExtended(u8),
+
     // Emits the distance from the end of an instruction of three bytes to the operand's imm, modulo 65,536 (CALL, JMP).
     RelWord(u8),
 
