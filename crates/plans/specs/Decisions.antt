@@ -4,7 +4,7 @@
 use Prim.Native.Nat.{ℕ}
 use mathlib.Core.Bool.{Bool, true, false}
 use lib.Dec.{eqb}
-use lib.IntN.{pos, negsuc}
+use lib.IntN.{pos}
 use Rattle.mrc_compiler.specs.declared.ast.DataSize.{DataSize}
 use Rattle.mrc_compiler.specs.declared.ast.DataSize.the-variants as Z
 use Rattle.mrc_compiler.specs.declared.ast.OptionDataSize.{OptionDataSize}
@@ -16,6 +16,7 @@ use Rattle.mrc_compiler.specs.declared.encoder.OperandSize.{OperandSize}
 use Rattle.mrc_compiler.specs.Builders.{isDirectAddress}
 use Rattle.mrc_compiler.specs.Choose.{pick, both, bySize, byKind, byJump}
 use Rattle.mrc_compiler.specs.Values.{within}
+use Rattle.answers.specs.Limits.{limits, sign-extended}
 use Rattle.answers.specs.Rules.{isWord}
 use Rattle.groups.specs.declared.Group.{Group}
 use Rattle.groups.specs.declared.Group.the-variants as G
@@ -151,7 +152,7 @@ intForm k = byKind k L.IntImm L.InvalidFirst L.InvalidFirst L.InvalidFirst
 
 -- ---- the groups, for the count k and the operands a and b
 abbrev pub takesByte : DataSize → OperandData → Bool
-takesByte z o = byData z false (within (negsuc 127) (pos 127) (o .imm))
+takesByte z o = byData z false (within (limits sign-extended .low) (limits sign-extended .high) (o .imm))
 
 abbrev pub accDirect : OperandData → OperandData → Bool
 accDirect r m = both (eqb (r .rm) 0) (isDirectAddress (m .mode) (m .rm))
