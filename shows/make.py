@@ -122,7 +122,7 @@ def text_refusal(answers):
     return f'{answer}\n' if answer.endswith('-') else f'refused {number} {k}\n'
 
 
-# ---- the cases of the gate. Bytes and refusals are those of document 01 (bench sheet, questions, code list) and of document 02, Nos. 1 and 2, unless another
+# ---- the cases of the gate. Bytes and refusals are those of document 01 (bench sheet, questions, code list) and of document 02, Nos. 1, 2 and 4, unless another
 # source is named.
 AAM = 'AAM | D4 0A'
 MOV = 'MOV AX,4660 | B8 34 12'
@@ -139,14 +139,18 @@ REFUSED = {
 }
 # the first number that is no code: 99 operations; kinds, sizes and jump kinds from 0
 UNKNOWN = {'operation': 99, 'kind1': 4, 'size1': 3, 'displacement-size1': 3, 'jump1': 4, 'kind2': 4, 'size2': 3, 'displacement-size2': 3, 'jump2': 4}
-# what document 02, Nos. 1 and 2, turn away
+# what document 02, Nos. 1, 2 and 4, turn away
 ADDED_REFUSED = ['TEST BL,300 | refused 5', 'TEST AX,65536 | refused 5', 'TEST [BX],5 | refused 2', 'TEST AX,CL | refused 3', 'TEST AX,DS | refused 1',
     'PUSH byte [BX] | refused 1', 'PUSH [BX] | refused 1', 'POP byte [BX] | refused 4', 'POP [BX] | refused 4', 'RET -1 | refused 5', 'RET 65536 | refused 5',
     'RET AX | refused 1', 'RET word [BX] | refused 1', 'CALL far byte [BX] | refused 1', 'CALL far AX | refused 1', 'JMP short 30000 | refused 6',
-    'JMP short -1 | refused 5', 'JMP short 65536 | refused 5', 'JMP short [BX] | refused 1', 'ESC | refused 7', 'ADD BX,-129 | refused 5', 'SUB word [BX],-129 | refused 5', 'ADD BL,-1 | refused 5', 'MOV BX,-1 | refused 5']
+    'JMP short -1 | refused 5', 'JMP short 65536 | refused 5', 'JMP short [BX] | refused 1', 'ESC | refused 7', 'ADD BX,70000 | refused 5', 'SUB word [BX],-32769 | refused 5', 'ADD BL,-129 | refused 5', 'MOV BX,-32769 | refused 5', 'INT -1 | refused 5', 'IN AL,-1 | refused 5', 'OUT -1,AL | refused 5',
+    'CALL -1 | refused 5', 'SHL AL,-1 | refused 1']
 # the SDM's 83 /0 to /7
 NEGATIVE = ['ADD BX,-1 | 83 C3 FF', 'OR CX,-2 | 83 C9 FE', 'ADC word [BX],-128 | 83 17 80', 'SBB DX,-3 | 83 DA FD', 'AND word [BX+SI+2],-16 | 83 60 02 F0',
     'SUB word [1536],-1 | 83 2E 00 06 FF', 'XOR AX,-1 | 83 F0 FF', 'CMP AX,-128 | 83 F8 80', 'ADD AX,65535 | 05 FF FF', 'CMP word [BX],65535 | 81 3F FF FF']
+# the SDM's 04, 05, 80, 81, A8, A9, B0 to BF, C6, C7, F6 and F7
+DATA = ['MOV AL,-1 | B0 FF', 'MOV AL,255 | B0 FF', 'MOV BX,-2 | BB FE FF', 'MOV byte [BX],-1 | C6 07 FF', 'ADD AL,-1 | 04 FF', 'ADD AX,-129 | 05 7F FF', 'SUB BL,-128 | 80 EB 80',
+    'CMP word [BX],-32768 | 81 3F 00 80', 'TEST AL,-2 | A8 FE', 'TEST AX,-2 | A9 FE FF', 'TEST CL,-128 | F6 C1 80', 'TEST word [BX],-3 | F7 07 FD FF']
 
 
 def sampled():
@@ -164,6 +168,7 @@ def cases():
         yield f'refused-{number}-middle', ['origin 256', MOV, *bad, AAM]
         yield f'refused-{number}-last', ['origin 256', MOV, AAM, *bad]
     yield 'negative', ['origin 256', *NEGATIVE]
+    yield 'negative-data', ['origin 256', *DATA]
     for k, bad in enumerate(ADDED_REFUSED):
         yield f'added-refused-{k}', ['origin 65533', MOV, bad, AAM]
     yield 'the-first-refused', [MOV, *REFUSED[5], *REFUSED[7]]

@@ -4,11 +4,11 @@ bench_sheet.py lists > crates/vectors/data/lists.txt
 bench_sheet.py sample < SAMPLE > crates/vectors/data/sample.txt     (needs nasm 2.16)
 
 Writes the rows that the program `vectors` runs. For the encoder: the bench sheet's rows, the example of 'Show file', and the sentences of
-document 01 and of document 02, Nos. 1 and 2, that give a record's bytes or refusal; the expected values are those documents' and the SDM's, and a row's name tells
-the sentence. For the lister: the bench sheet's lists, marked 01, lists that Nos. 1 and 2 tell of, marked 02, and lists put together by hand from the SDM's opcode tables.
+document 01 and of document 02, Nos. 1, 2 and 4, that give a record's bytes or refusal; the expected values are those documents' and the SDM's, and a row's name tells
+the sentence. For the lister: the bench sheet's lists, marked 01, lists that those tell of, marked 02, and lists put together by hand from the SDM's opcode tables.
 
 The sample is the Rust's answers as differential/run writes them. Where a request of document 02 answers otherwise, the row gets the request's refusal or NASM's bytes, and
-says so in its name: No. 1 where the Rust panics at `todo!`, for which 7 stands there; No. 2 where it refuses -128 to -1 under 83. All other rows pass through unchanged."""
+says so in its name: No. 1 where the Rust panics at `todo!`, for which 7 stands there; Nos. 2 and 4 where it refuses a data immediate with 5. All other rows pass through unchanged."""
 import pathlib
 import struct
 import subprocess
@@ -118,6 +118,10 @@ def the_lists():
     lists('ADD AX,200', 'ADD', [AX, imm(200)], '05 C8 00', '81 C0 C8 00')
     lists('02: ADD AX,-1', 'ADD', [AX, imm(-1)], '05 FF FF', '83 C0 FF', '81 C0 FF FF')
     lists('02: ADD AX,65535, the same', 'ADD', [AX, imm(65535)], '05 FF FF', '83 C0 FF', '81 C0 FF FF')
+    lists('02: MOV AL,255', 'MOV', [AL, imm(255)], 'B0 FF', 'C6 C0 FF')
+    lists('02: MOV AL,-1, the same', 'MOV', [AL, imm(-1)], 'B0 FF', 'C6 C0 FF')
+    lists('02: MOV AX,65535', 'MOV', [AX, imm(65535)], 'B8 FF FF', 'C7 C0 FF FF')
+    lists('02: MOV AX,-1, the same', 'MOV', [AX, imm(-1)], 'B8 FF FF', 'C7 C0 FF FF')
     lists('CMP AX,65535', 'CMP', [AX, imm(65535)], '3D FF FF', '83 F8 FF', '81 F8 FF FF')
     lists('ADD BX,5', 'ADD', [BX, imm(5)], '83 C3 05', '81 C3 05 00')
     lists('ADD AL,200', 'ADD', [AL, imm(200)], '04 C8', '80 C0 C8')
@@ -243,7 +247,7 @@ def the_bench_sheet():
     # 'docs/DIFFERENCES.md starts with'
     gives('AAD', 'AAD', [], 'D5 0A')
     gives('TEST AL,5 by the second', 'TEST', [operand(REG, BYTE, 0, 3, imm=9), imm(5)], 'A8 05')
-    refused('TEST AL,256 by the second', 'TEST', [AL, imm(256)], 5, SECOND, (256, 0, 255))
+    refused('TEST AL,256 by the second', 'TEST', [AL, imm(256)], 5, SECOND, (256, -128, 255))
     refused('POP CS', 'POP', [seg(1)], 1, INSTRUCTION)
     refused('CALL AX, Far', 'CALL', [reg(WORD, 0, FAR)], 1, INSTRUCTION)
     refused('CALL AX, Short', 'CALL', [reg(WORD, 0, SHORT)], 1, INSTRUCTION)
@@ -311,14 +315,15 @@ def the_bench_sheet():
     gives('TEST byte [BX],255', 'TEST', [AT_BX(BYTE), imm(255)], 'F6 07 FF')
     gives('TEST word [BX],65535', 'TEST', [AT_BX(WORD), imm(65535)], 'F7 07 FF FF')
     gives('TEST word CS:[4660],22136', 'TEST', [mem(WORD, 0, 6, 4660, 0x2E), imm(22136)], '2E F7 06 34 12 78 56')
-    refused('TEST BL,300', 'TEST', [BL, imm(300)], 5, SECOND, (300, 0, 255))
-    refused('TEST BL,-1', 'TEST', [BL, imm(-1)], 5, SECOND, (-1, 0, 255))
-    refused('TEST byte [BX],-1', 'TEST', [AT_BX(BYTE), imm(-1)], 5, SECOND, (-1, 0, 255))
-    refused('TEST byte [BX],256', 'TEST', [AT_BX(BYTE), imm(256)], 5, SECOND, (256, 0, 255))
-    refused('TEST AX,-1', 'TEST', [AX, imm(-1)], 5, SECOND, (-1, 0, 65535))
-    refused('TEST AX,65536', 'TEST', [AX, imm(65536)], 5, SECOND, (65536, 0, 65535))
-    refused('TEST BX,65536', 'TEST', [BX, imm(65536)], 5, SECOND, (65536, 0, 65535))
-    refused('TEST word [BX],-1', 'TEST', [AT_BX(WORD), imm(-1)], 5, SECOND, (-1, 0, 65535))
+    # its limits are No. 4's
+    refused('TEST BL,300', 'TEST', [BL, imm(300)], 5, SECOND, (300, -128, 255))
+    gives('TEST BL,-1', 'TEST', [BL, imm(-1)], 'F6 C3 FF')
+    gives('TEST byte [BX],-1', 'TEST', [AT_BX(BYTE), imm(-1)], 'F6 07 FF')
+    refused('TEST byte [BX],256', 'TEST', [AT_BX(BYTE), imm(256)], 5, SECOND, (256, -128, 255))
+    gives('TEST AX,-1', 'TEST', [AX, imm(-1)], 'A9 FF FF')
+    refused('TEST AX,65536', 'TEST', [AX, imm(65536)], 5, SECOND, (65536, -32768, 65535))
+    refused('TEST BX,65536', 'TEST', [BX, imm(65536)], 5, SECOND, (65536, -32768, 65535))
+    gives('TEST word [BX],-1', 'TEST', [AT_BX(WORD), imm(-1)], 'F7 07 FF FF')
     refused('TEST [BX],5, unstated', 'TEST', [AT_BX(ANY), imm(5)], 2, INSTRUCTION)
     refused('TEST AX,CL', 'TEST', [AX, CL], 3, INSTRUCTION)
     refused('TEST CL,word [BX]', 'TEST', [CL, AT_BX(WORD)], 3, INSTRUCTION)
@@ -387,19 +392,51 @@ def the_bench_sheet():
                                         ('SUB', 'EB', '2F'), ('XOR', 'F3', '37'), ('CMP', 'FB', '3F')):
         gives(f'{operation} BX,-1', operation, [BX, imm(-1)], f'83 {register} FF')
         gives(f'{operation} BX,-128', operation, [BX, imm(-128)], f'83 {register} 80')
-        refused(f'{operation} BX,-129', operation, [BX, imm(-129)], 5, SECOND, (-129, 0, 65535))
+        # 81 and 80, by No. 4
+        gives(f'{operation} BX,-129', operation, [BX, imm(-129)], f'81 {register} 7F FF')
         gives(f'{operation} word [BX],-1', operation, [AT_BX(WORD), imm(-1)], f'83 {memory} FF')
-        refused(f'{operation} word [BX],-129', operation, [AT_BX(WORD), imm(-129)], 5, SECOND, (-129, 0, 65535))
-        refused(f'{operation} BL,-1', operation, [reg(BYTE, 3), imm(-1)], 5, SECOND, (-1, 0, 255))
-        refused(f'{operation} byte [BX],-1', operation, [AT_BX(BYTE), imm(-1)], 5, SECOND, (-1, 0, 255))
+        gives(f'{operation} word [BX],-129', operation, [AT_BX(WORD), imm(-129)], f'81 {memory} 7F FF')
+        gives(f'{operation} BL,-1', operation, [reg(BYTE, 3), imm(-1)], f'80 {register} FF')
+        gives(f'{operation} byte [BX],-1', operation, [AT_BX(BYTE), imm(-1)], f'80 {memory} FF')
+        refused(f'{operation} BL,-129', operation, [reg(BYTE, 3), imm(-129)], 5, SECOND, (-129, -128, 255))
+        refused(f'{operation} BX,70000', operation, [BX, imm(70000)], 5, SECOND, (70000, -32768, 65535))
     gives('ADD AX,-128', 'ADD', [AX, imm(-128)], '83 C0 80')
-    refused('ADD AX,-129', 'ADD', [AX, imm(-129)], 5, SECOND, (-129, 0, 65535))
+    gives('ADD AX,-129', 'ADD', [AX, imm(-129)], '05 7F FF')
     gives('ADD AX,65535 is not 83', 'ADD', [AX, imm(65535)], '05 FF FF')
     gives('ADD BX,65535 is not 83', 'ADD', [BX, imm(65535)], '81 C3 FF FF')
     gives('ADD BX,65408 is not 83', 'ADD', [BX, imm(65408)], '81 C3 80 FF')
     gives('ADD word CS:[BP+SI-2],-3', 'ADD', [mem(WORD, 1, 2, -2, 0x2E), imm(-3)], '2E 83 42 FE FD')
-    refused('MOV AX,-1', 'MOV', [AX, imm(-1)], 5, SECOND, (-1, 0, 65535))
-    refused('ADD AX,65536', 'ADD', [AX, imm(65536)], 5, SECOND, (65536, 0, 65535))
+    refused('ADD AX,65536', 'ADD', [AX, imm(65536)], 5, SECOND, (65536, -32768, 65535))
+
+    # document 02, No. 4: one range for data immediates
+    gives('MOV AL,-1', 'MOV', [AL, imm(-1)], 'B0 FF')
+    gives('MOV AL,-128', 'MOV', [AL, imm(-128)], 'B0 80')
+    refused('MOV AL,-129', 'MOV', [AL, imm(-129)], 5, SECOND, (-129, -128, 255))
+    refused('MOV AL,256', 'MOV', [AL, imm(256)], 5, SECOND, (256, -128, 255))
+    gives('MOV AX,-1', 'MOV', [AX, imm(-1)], 'B8 FF FF')
+    gives('MOV BX,-32768', 'MOV', [BX, imm(-32768)], 'BB 00 80')
+    refused('MOV BX,-32769', 'MOV', [BX, imm(-32769)], 5, SECOND, (-32769, -32768, 65535))
+    refused('MOV BX,65536', 'MOV', [BX, imm(65536)], 5, SECOND, (65536, -32768, 65535))
+    gives('ADD AL,-1', 'ADD', [AL, imm(-1)], '04 FF')
+    gives('ADD AL,-128', 'ADD', [AL, imm(-128)], '04 80')
+    gives('ADD AX,-32768', 'ADD', [AX, imm(-32768)], '05 00 80')
+    refused('ADD AX,-32769', 'ADD', [AX, imm(-32769)], 5, SECOND, (-32769, -32768, 65535))
+    refused('ADD AX,70000', 'ADD', [AX, imm(70000)], 5, SECOND, (70000, -32768, 65535))
+    gives('TEST AL,-128', 'TEST', [AL, imm(-128)], 'A8 80')
+    refused('TEST AL,-129', 'TEST', [AL, imm(-129)], 5, SECOND, (-129, -128, 255))
+    gives('TEST AX,-32768', 'TEST', [AX, imm(-32768)], 'A9 00 80')
+    refused('TEST word [BX],-32769', 'TEST', [AT_BX(WORD), imm(-32769)], 5, SECOND, (-32769, -32768, 65535))
+    # what keeps its range
+    refused('INT -1', 'INT', [imm(-1)], 5, FIRST, (-1, 0, 255))
+    refused('INT 256', 'INT', [imm(256)], 5, FIRST, (256, 0, 255))
+    refused('IN AL,-1', 'IN', [AL, imm(-1)], 5, SECOND, (-1, 0, 255))
+    refused('OUT -1,AL', 'OUT', [imm(-1), AL], 5, FIRST, (-1, 0, 255))
+    refused('MOV AL,[-1]', 'MOV', [AL, mem(BYTE, 0, 6, -1)], 5, SECOND, (-1, 0, 65535))
+    refused('MOV [-1],AX', 'MOV', [mem(WORD, 0, 6, -1), AX], 5, FIRST, (-1, 0, 65535))
+    refused('CALL -1', 'CALL', [imm(-1)], 5, FIRST, (-1, 0, 65535))
+    refused('JMP -1', 'JMP', [imm(-1)], 5, FIRST, (-1, 0, 65535))
+    refused('JMP 0 in segment -1, Far', 'JMP', [imm(0, FAR, -1)], 5, FIRST, (-1, 0, 65535))
+    refused('SHL AL,-1', 'SHL', [AL, imm(-1)], 1, INSTRUCTION)
 
 
 # ---- the sample
@@ -430,7 +467,7 @@ def assembled(text, offset):
 
 
 def by_request(operation, offset, spans, first, second):
-    """What a request answers to a record on which 000 panics (No. 1) or refuses -128 to -1 under 83 (No. 2): number, span and values, or NASM's bytes."""
+    """What a request answers to a record on which 000 panics (No. 1) or refuses a data immediate with 5 (Nos. 2 and 4): number, span and values, or NASM's bytes."""
     instruction, at_first, at_second = spans
     size = first[1] or second[1]
     value, distance, highest = first[7], first[7] - (offset + 2), 256**size - 1
@@ -438,8 +475,9 @@ def by_request(operation, offset, spans, first, second):
         return dict(number=1, span=instruction)
     if operation in ('RET', 'JMP') and not 0 <= value <= 65535:
         return dict(number=5, span=at_first, values=(value, 0, 65535))
-    if operation == 'TEST' and second[0] == IMM and not 0 <= second[7] <= highest:
-        return dict(number=5, span=at_second, values=(second[7], 0, highest))
+    lowest = -128 if size == BYTE else -32768
+    if operation in ('TEST', 'MOV', *EIGHT) and second[0] == IMM and not lowest <= second[7] <= highest:
+        return dict(number=5, span=at_second, values=(second[7], lowest, highest))
     if operation == 'JMP' and not -128 <= distance <= 127:
         return dict(number=6, span=at_first, values=(distance, 0, 0))
     text = {
@@ -450,7 +488,8 @@ def by_request(operation, offset, spans, first, second):
         'CALL': lambda: f'far {text_of(first, ANY)}',
         'JMP': lambda: f'short {text_of(first, ANY)}',
         'WAIT': lambda: '',
-    }.get(operation, lambda: f'{text_of(first, size)},strict byte {second[7]}')()
+        'MOV': lambda: f'{text_of(first, size)},{text_of(second, size)}',
+    }.get(operation, lambda: f'{text_of(first, size)},strict {"byte" if size == BYTE or second[7] >= -128 else "word"} {second[7]}')()
     prefix = next((o[2] for o in (first, second) if o[0] == MEM), 0) if '[' in text else 0
     written = assembled(f'{PREFIXES[prefix]}{operation} {text}', offset)
     return dict(number=0, length=len(written), written=written)
@@ -468,6 +507,8 @@ def the_sample():
             request = 1
         elif number == '05' and operation in EIGHT and WORD in (first[1], second[1]) and -128 <= second[7] < 0:
             request = 2
+        elif number == '05' and second[0] == IMM and (operation in EIGHT or operation == 'MOV' and first[0] == REG):
+            request = 4
         else:
             print(line)
             continue

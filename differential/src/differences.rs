@@ -32,13 +32,16 @@ pub struct Entry {
 
 pub const EMITTED_BEFORE_FAILING: &str = "emitted-before-failing";
 pub const SIGN_EXTENDED_NEGATIVE: &str = "sign-extended-negative";
+pub const ARITHMETIC_RANGE: &str = "arithmetic-range";
 pub const LEFT_OPEN: &str = "left-open";
 pub const CALL_FAR_BYTE_MEMORY: &str = "call-far-byte-memory";
 pub const TODO: &str = "todo";
 /// Where 000 panics.
 pub const PANICS: [&str; 3] = [TODO, LEFT_OPEN, CALL_FAR_BYTE_MEMORY];
 /// Where 000 has emitted bytes when it refuses.
-pub const EMITS: [&str; 2] = [EMITTED_BEFORE_FAILING, SIGN_EXTENDED_NEGATIVE];
+pub const EMITS: [&str; 3] = [EMITTED_BEFORE_FAILING, SIGN_EXTENDED_NEGATIVE, ARITHMETIC_RANGE];
+/// Where a range is wider than 000's: a run must meet both what it takes more and its refusal.
+pub const WIDER: [&str; 3] = ["test-immediate", ARITHMETIC_RANGE, "mov-register-range"];
 
 pub static ENTRIES: &[Entry] = &[
     Entry {
@@ -68,10 +71,10 @@ pub static ENTRIES: &[Entry] = &[
         applies: |r, _| {
             let [first, second] = &r.operands;
             let taken = r.common_size() == Some(BYTE) && first.kind == REG && first.rm == 0 && second.kind == IMM;
-            taken && test_al(first) != test_al(second)
+            taken && test_al(first, 0) != test_al(second, -128)
         },
-        theirs: |r, o| o.answer == test_al(&r.operands[0]),
-        ours: |r, _, _| test_al(&r.operands[1]),
+        theirs: |r, o| o.answer == test_al(&r.operands[0], 0),
+        ours: |r, _, _| test_al(&r.operands[1], -128),
     },
     Entry {
         id: "pop-cs",
@@ -122,7 +125,7 @@ pub static ENTRIES: &[Entry] = &[
         operations: &[op::MOV],
         applies: |r, _| {
             let [first, second] = &r.operands;
-            let (low, high) = moved_limits(r);
+            let (low, high) = data_limits(r);
             first.kind == MEM && second.kind == IMM && r.common_size().is_some() && !(low..=high).contains(&second.imm)
         },
         theirs: |r, o| {
@@ -135,7 +138,7 @@ pub static ENTRIES: &[Entry] = &[
                 }
         },
         ours: |r, _, _| {
-            let (low, high) = moved_limits(r);
+            let (low, high) = data_limits(r);
             answers::out_of_range(r.operands[1].span, r.operands[1].imm, low, high)
         },
     },
@@ -161,7 +164,7 @@ pub static ENTRIES: &[Entry] = &[
         id: EMITTED_BEFORE_FAILING,
         kind: Kind::Manner,
         operations: &[
-            op::ADD, op::OR, op::ADC, op::SBB, op::AND, op::SUB, op::XOR, op::CMP, op::MOV, op::INT,
+            op::MOV, op::INT,
             op::JO, op::JNO, op::JB, op::JNB, op::JE, op::JNE, op::JBE, op::JNBE, op::JS, op::JNS, op::JP, op::JNP,
             op::JL, op::JNL, op::JLE, op::JNLE, op::LOOPNZ, op::LOOPZ, op::LOOP, op::JCXZ,
         ],
@@ -257,22 +260,82 @@ pub static ENTRIES: &[Entry] = &[
         },
         theirs: |r, o| o.emitted > 0 && o.answer == answers::out_of_range(r.operands[1].span, r.operands[1].imm, 0, 255),
         ours: |r, _, _| {
-            let n = ARITHMETIC.iter().position(|operation| *operation == r.operation).unwrap() as u8;
-            with_modrm(0x83, n, &r.operands[0], &[r.operands[1].imm as u8])
+            with_modrm(0x83, digit(r), &r.operands[0], &[r.operands[1].imm as u8])
         },
     },
+    Entry {
+        id: ARITHMETIC_RANGE,
+        kind: Kind::Request,
+        operations: &ARITHMETIC,
+        applies: |r, _| {
+            let [first, second] = &r.operands;
+            let taken = first.is_rm() && second.kind == IMM;
+            // -128 to -1 of a Word is sign-extended-negative
+            taken && is_outside(r, second.imm) && !(r.common_size() == Some(WORD) && (-128..0).contains(&second.imm))
+        },
+        theirs: |r, o| o.emitted > 0 && o.answer == answers::out_of_range(r.operands[1].span, r.operands[1].imm, 0, data_limits(r).1),
+        ours: |r, _, _| {
+            let (base, n) = (8 * digit(r), digit(r));
+            data_immediate(r, |w, first, immediate| {
+                if first.kind == REG && first.rm == 0 {
+                    with_opcode(base + 4 + w, immediate)
+                } else {
+                    with_modrm(0x80 + w, n, first, immediate)
+                }
+            })
+        },
+    },
+    Entry {
+        id: "mov-register-range",
+        kind: Kind::Request,
+        operations: &[op::MOV],
+        applies: |r, _| r.operands[0].kind == REG && r.operands[1].kind == IMM && is_outside(r, r.operands[1].imm),
+        theirs: |r, o| o.answer == answers::out_of_range(r.operands[1].span, r.operands[1].imm, 0, data_limits(r).1),
+        ours: |r, _, _| data_immediate(r, |w, first, immediate| with_opcode(0xB0 + 8 * w + first.rm, immediate)),
+    },
 ];
+
+/// The /n of an arithmetic operation.
+fn digit(r: &Record) -> u8 {
+    ARITHMETIC.iter().position(|operation| *operation == r.operation).unwrap() as u8
+}
+
+/// Is a data immediate outside 000's range for it?
+fn is_outside(r: &Record, value: i32) -> bool {
+    match r.common_size() {
+        Some(BYTE) => !is_byte(value),
+        Some(_) => !is_word(value),
+        None => false,
+    }
+}
+
+/// A form with the second operand's immediate in its limits, by the bit of its size; else 5.
+fn data_immediate(r: &Record, form: impl Fn(u8, &Operand, &[u8]) -> Answer) -> Answer {
+    let [first, second] = &r.operands;
+    let (low, high) = data_limits(r);
+    let w = (r.common_size() == Some(WORD)) as u8;
+    if (low..=high).contains(&second.imm) {
+        form(w, first, &second.imm.to_le_bytes()[..1 + w as usize])
+    } else {
+        answers::out_of_range(second.span, second.imm, low, high)
+    }
+}
+
+fn with_opcode(opcode: u8, immediate: &[u8]) -> Answer {
+    answers::bytes(&[&[opcode], immediate].concat())
+}
+
 
 fn adjust(r: &Record) -> u8 {
     if r.operation == op::AAM { 0xD4 } else { 0xD5 }
 }
 
-/// TEST AL with the immediate and the span of this operand.
-fn test_al(operand: &Operand) -> Answer {
-    if is_byte(operand.imm) {
+/// TEST AL with the immediate and the span of this operand, from this limit on.
+fn test_al(operand: &Operand, low: i32) -> Answer {
+    if (low..=255).contains(&operand.imm) {
         answers::bytes(&[0xA8, operand.imm as u8])
     } else {
-        answers::out_of_range(operand.span, operand.imm, 0, 255)
+        answers::out_of_range(operand.span, operand.imm, low, 255)
     }
 }
 
@@ -284,7 +347,7 @@ fn is_word(value: i32) -> bool {
     (0..=65535).contains(&value)
 }
 
-fn moved_limits(r: &Record) -> (i32, i32) {
+fn data_limits(r: &Record) -> (i32, i32) {
     if r.common_size() == Some(BYTE) { (-128, 255) } else { (-32768, 65535) }
 }
 
@@ -310,16 +373,7 @@ fn dx_of_size(r: &Record, size: u8) -> bool {
 fn fails_after_emitting(r: &Record, offset: u16) -> bool {
     let [first, second] = &r.operands;
     let operation = r.operation;
-    if ARITHMETIC.contains(&operation) {
-        first.is_rm()
-            && second.kind == IMM
-            && match r.common_size() {
-                Some(BYTE) => !is_byte(second.imm),
-                // -128 to -1 is sign-extended-negative
-                Some(_) => !is_word(second.imm) && !(-128..0).contains(&second.imm),
-                None => false,
-            }
-    } else if operation == op::MOV {
+    if operation == op::MOV {
         let moffs = |register: &Operand, memory: &Operand| {
             register.kind == REG && register.rm == 0 && memory.is_direct() && !is_word(memory.displacement)
         };

@@ -1,4 +1,4 @@
-//! Where 000 ends in `todo!` and document 02, No. 1, gives an answer: what ours must answer there. The forms are the Intel SDM's.
+//! Where 000 ends in `todo!` and document 02, No. 1, gives an answer: what ours must answer there. The forms are the Intel SDM's, TEST's ranges No. 4's.
 
 use super::answers::{self, Answer};
 use super::differences::with_modrm;
@@ -16,7 +16,7 @@ pub fn answer(r: &Record, offset: u16) -> Option<Answer> {
         op::PUSH if memory && first.size == WORD => Some(with_modrm(0xFF, 6, first, &[])),
         op::POP if memory && first.size == WORD => Some(with_modrm(0x8F, 0, first, &[])),
         op::RET if r.count != 0 && first.kind == IMM => {
-            Some(with_immediate(first, WORD, |iw| answers::bytes(&[0xC2, iw[0], iw[1]])))
+            Some(with_immediate(first, WORD, 0, |iw| answers::bytes(&[0xC2, iw[0], iw[1]])))
         }
         op::RET if r.count != 0 => Some(answers::refused(1, r.span)),
         op::CALL if memory && first.jump == FAR && first.size != BYTE => Some(with_modrm(0xFF, 3, first, &[])),
@@ -43,19 +43,19 @@ fn test(r: &Record) -> Option<Answer> {
         (REG, MEM) => Some(with_modrm(modrm, first.rm, second, &[])),
         // 000 has this one, with the wrong immediate: test-immediate
         (REG, IMM) if size == BYTE && first.rm == 0 => None,
-        (REG, IMM) if first.rm == 0 => Some(with_immediate(second, WORD, |iw| answers::bytes(&[0xA9, iw[0], iw[1]]))),
-        (REG | MEM, IMM) if size == BYTE => Some(with_immediate(second, BYTE, |ib| with_modrm(0xF6, 0, first, ib))),
-        (REG | MEM, IMM) => Some(with_immediate(second, WORD, |iw| with_modrm(0xF7, 0, first, iw))),
+        (REG, IMM) if first.rm == 0 => Some(with_immediate(second, WORD, -32768, |iw| answers::bytes(&[0xA9, iw[0], iw[1]]))),
+        (REG | MEM, IMM) if size == BYTE => Some(with_immediate(second, BYTE, -128, |ib| with_modrm(0xF6, 0, first, ib))),
+        (REG | MEM, IMM) => Some(with_immediate(second, WORD, -32768, |iw| with_modrm(0xF7, 0, first, iw))),
         _ => None,
     }
 }
 
-/// The form with this operand's immediate, which is unsigned and of this size; else 5 with its span.
-fn with_immediate(operand: &Operand, size: u8, form: impl Fn(&[u8]) -> Answer) -> Answer {
+/// The form with this operand's immediate, which is of this size and not below this limit; else 5 with its span.
+fn with_immediate(operand: &Operand, size: u8, low: i32, form: impl Fn(&[u8]) -> Answer) -> Answer {
     let high = if size == BYTE { 255 } else { 65535 };
-    if (0..=high).contains(&operand.imm) {
+    if (low..=high).contains(&operand.imm) {
         form(&operand.imm.to_le_bytes()[..size as usize])
     } else {
-        answers::out_of_range(operand.span, operand.imm, 0, high)
+        answers::out_of_range(operand.span, operand.imm, low, high)
     }
 }

@@ -1,5 +1,5 @@
 //! A STAND-IN for our encoder, only for `build --standin`: it tests the driver while there is no library, and proves nothing.
-//! Written from document 01 with document 02, Nos. 1 and 2, in the order of the questions, and not from 000.
+//! Written from document 01 with document 02, Nos. 1, 2 and 4, in the order of the questions, and not from 000.
 
 use super::answers::{self, Answer, Span};
 use super::groups::{ARITHMETIC, CONDITIONAL, LOOPS};
@@ -146,8 +146,8 @@ fn answer(r: &Record, offset: u16) -> Answer {
             (MEM, REG) | (REG, REG) => modrm(0x84 + w, b.rm, a, &[]),
             (REG, MEM) => modrm(0x84 + w, a.rm, b, &[]),
             (REG | MEM, IMM) => {
-                let (width, high) = [(1, 255), (2, 65535)][w as usize];
-                match ranged(&[0xA8 + w], width, b.imm, 0, high, b.span) {
+                let (width, low, high) = data(w);
+                match ranged(&[0xA8 + w], width, b.imm, low, high, b.span) {
                     Answer::Bytes(_) if a.kind == MEM || a.rm != 0 => modrm(0xF6 + w, 0, a, &b.imm.to_le_bytes()[..width]),
                     accumulator_or_refused => accumulator_or_refused,
                 }
@@ -221,11 +221,11 @@ fn arithmetic(i: u8, w: u8, a: &Operand, b: &Operand, none: Answer) -> Answer {
             if w == 1 && (-128..=127).contains(&b.imm) {
                 return modrm(0x83, i, a, &b.imm.to_le_bytes()[..1]);
             }
-            let (width, high) = if w == 0 { (1, 255) } else { (2, 65535) };
-            if !(0..=high).contains(&b.imm) {
-                answers::out_of_range(b.span, b.imm, 0, high)
+            let (width, low, high) = data(w);
+            if !(low..=high).contains(&b.imm) {
+                answers::out_of_range(b.span, b.imm, low, high)
             } else if a.kind == REG && a.rm == 0 {
-                ranged(&[base + 4 + w], width, b.imm, 0, high, b.span)
+                ranged(&[base + 4 + w], width, b.imm, low, high, b.span)
             } else {
                 modrm(0x80 + w, i, a, &b.imm.to_le_bytes()[..width])
             }
@@ -234,18 +234,25 @@ fn arithmetic(i: u8, w: u8, a: &Operand, b: &Operand, none: Answer) -> Answer {
     }
 }
 
+/// Length and limits of a data immediate.
+fn data(w: u8) -> (usize, i32, i32) {
+    if w == 0 { (1, -128, 255) } else { (2, -32768, 65535) }
+}
+
 fn mov(w: u8, a: &Operand, b: &Operand, none: Answer) -> Answer {
     match (a.kind, b.kind) {
         (MEM, REG) if a.is_direct() && b.rm == 0 => moffs(0xA2 + w, a),
         (REG, MEM) if b.is_direct() && a.rm == 0 => moffs(0xA0 + w, b),
         (REG | MEM, REG) => modrm(0x88 + w, b.rm, a, &[]),
         (REG, MEM) => modrm(0x8A + w, a.rm, b, &[]),
-        (REG, IMM) if w == 0 => ranged(&[0xB0 + a.rm], 1, b.imm, 0, 255, b.span),
-        (REG, IMM) => ranged(&[0xB8 + a.rm], 2, b.imm, 0, 65535, b.span),
+        (REG, IMM) => {
+            let (width, low, high) = data(w);
+            ranged(&[0xB0 + 8 * w + a.rm], width, b.imm, low, high, b.span)
+        }
         (MEM, IMM) => {
-            let (low, high) = if w == 0 { (-128, 255) } else { (-32768, 65535) };
+            let (width, low, high) = data(w);
             if (low..=high).contains(&b.imm) {
-                modrm(0xC6 + w, 0, a, &b.imm.to_le_bytes()[..1 + w as usize])
+                modrm(0xC6 + w, 0, a, &b.imm.to_le_bytes()[..width])
             } else {
                 answers::out_of_range(b.span, b.imm, low, high)
             }

@@ -40,6 +40,7 @@ pub fn sample(of_each: usize, random: u64) -> Vec<Accepted> {
     branches(&mut visit);
     no_1(&mut visit);
     no_2(&mut visit);
+    no_4(&mut visit);
     random::records(random, SEED, &mut visit);
     kept.into_values().flat_map(|(_, records)| records).collect()
 }
@@ -87,6 +88,20 @@ fn no_2(visit: &mut Visit) {
         for value in -130..=129 {
             for first in [shapes::register(WORD, NONE, 3, 0), shapes::memory(WORD, NONE, 0, 1, 6, -2, 0)] {
                 visit(generate::record(operation, 2, first, shapes::immediate(UNSTATED, NONE, value, 0)), 0);
+            }
+        }
+    }
+}
+
+/// Data immediates around their limits and around 83's, by every operation that has one, of the accumulator, another register and memory.
+fn no_4(visit: &mut Visit) {
+    let around = [-32769, -32768, -32767, -256, -255, -130, -129, -128, -127, -2, -1, 0, 127, 128, 254, 255, 256, 32767, 32768, 65534, 65535, 65536];
+    for operation in ARITHMETIC.into_iter().chain([op::MOV, op::TEST]) {
+        for size in [BYTE, WORD] {
+            for first in [shapes::register(size, NONE, 0, 0), shapes::register(size, NONE, 3, 0), shapes::memory(size, NONE, 0, 1, 6, -2, 0)] {
+                for value in around {
+                    visit(generate::record(operation, 2, first, shapes::immediate(UNSTATED, NONE, value, 0)), 0);
+                }
             }
         }
     }

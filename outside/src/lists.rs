@@ -60,7 +60,7 @@ pub fn record_of(meaning: &Meaning) -> Record {
     generate::record(operation, count as u8, operand(0), operand(1))
 }
 
-/// Another record of this meaning, where there is one: the operands the other way round, another kind of JMP, or a negative immediate that 83 takes.
+/// Another record of this meaning, where there is one: the operands the other way round, another kind of JMP, or a negative data immediate.
 fn also(meaning: &Meaning, record: &Record) -> Option<Record> {
     let mut other = *record;
     match (meaning.operation, meaning.operands) {
@@ -69,7 +69,13 @@ fn also(meaning: &Meaning, record: &Record) -> Option<Record> {
             let near = (-128..=127).contains(&(target as i32 - (OFFSET as i32 + 2)));
             other.operands[0].jump = if near { SHORT } else { NONE };
         }
-        (operation, [_, Operand::Immediate(65408..=65535)]) if ARITHMETIC.contains(&operation) => other.operands[1].imm -= 65536,
+        (operation, [_, Operand::Immediate(value)]) if ARITHMETIC.contains(&operation) || matches!(operation, op::MOV | op::TEST) => {
+            let modulus = if meaning.width == BYTE { 256 } else { 65536 };
+            if (value as i32) < modulus / 2 {
+                return None;
+            }
+            other.operands[1].imm -= modulus;
+        }
         _ => return None,
     }
     Some(other)

@@ -19,6 +19,8 @@ fn accepted() -> Vec<(Instruction, u16, &'static str, &'static str)> {
         (Instruction::two(TEST, AL, 5), 0, "A8 05", "TEST AL,5"),
         (Instruction::two(ADD, AX, 5), 0, "83 C0 05", "ADD AX,5"),
         (Instruction::two(ADD, AX, -1), 0, "83 C0 FF", "ADD AX,65535"),
+        (Instruction::two(MOV, AL, -1), 0, "B0 FF", "MOV AL,255"),
+        (Instruction::two(TEST, AX, -2), 0, "A9 FE FF", "TEST AX,65534"),
         (Instruction::two(ADD, BX, 200), 0, "81 C3 C8 00", "ADD BX,200"),
         (Instruction::two(ADD, at_bx().word(), 5), 0, "83 07 05", "ADD word [BX],5"),
         // XCHG has no first and second; the reader puts the lower register first.
@@ -98,15 +100,15 @@ fn refusals() {
         (Instruction::one(NOT, at_bx()), 2, "byte or word is not said"),
         (Instruction::two(ADD, AX, CL), 3, "one operand is a byte and the other a word"),
         (Instruction::one(INC, at_bx()), 4, "the operation does not take an operand of this size"),
-        (Instruction::two(ADD, AX, -129), 5, "value -129 is outside 0..65535"),
+        (Instruction::two(ADD, AX, 70000), 5, "value 70000 is outside -32768..65535"),
         (Instruction::two(MOV, at_bx().byte(), 300), 5, "value 300 is outside -128..255"),
         (Instruction::one(JE, 130), 6, "the target is 128 bytes away, outside -128..127"),
         (Instruction::none(INT1), 7, "the encoder does not have this instruction"),
         (Instruction::none(ESC), 7, "the encoder does not have this instruction"),
         (Instruction::two(MOV, AX, Operand::memory(Base::BX, 65536)), 8, "the fields of the record contradict each other"),
         // Document 02, No. 1.
-        (Instruction::two(TEST, BL, 300), 5, "value 300 is outside 0..255"),
-        (Instruction::two(TEST, at_bx().word(), -1), 5, "value -1 is outside 0..65535"),
+        (Instruction::two(TEST, BL, 300), 5, "value 300 is outside -128..255"),
+        (Instruction::two(TEST, at_bx().word(), 65536), 5, "value 65536 is outside -32768..65535"),
         (Instruction::one(PUSH, at_bx().byte()), 1, "the operation does not take these operands"),
         (Instruction::one(PUSH, at_bx()), 1, "the operation does not take these operands"),
         (Instruction::one(POP, at_bx()), 4, "the operation does not take an operand of this size"),
@@ -199,8 +201,8 @@ fn refusals_of_bytes_and_files() {
 /// Document 01: the instruction's span where 000 names none, for 5 the operand's.
 #[test]
 fn spans_come_back() {
-    let add = Instruction::two(ADD, Operand::from(AX).at(4..6), Operand::from(-129).at(7..11)).at(0..11);
-    assert_eq!(encode(&add, 0).unwrap_err().span, Some(7..11));
+    let add = Instruction::two(ADD, Operand::from(AX).at(4..6), Operand::from(70000).at(7..12)).at(0..12);
+    assert_eq!(encode(&add, 0).unwrap_err().span, Some(7..12));
     let pop = Instruction::one(POP, Operand::from(Segment::CS).at(4..6)).at(0..6);
     assert_eq!(encode(&pop, 0).unwrap_err().span, Some(0..6));
     // Document 02, No. 1.

@@ -114,9 +114,9 @@ module _ (op : Operation) (off : ℕ) where
       subst (λ (o : Operation). Reads off (canonical o (widthOf f) (holds (f .first) a) (holds (f .second) b)) (layout f off a b)) (l .operation-is)
       (reads-back f (kept (λ f. sameOperation (f .operation) op) forms m) (l .arranged) off h a b ga gb)
 
-  given : (s : Slot) (o : OperandData) (z : OperandSize) (f : Slot) → takes s z o ≡ true → wellFormed o ≡ true
-      → firstNo (ofSlot (groupOf op) f s off o) ≡ all-yes → Given s off o
-  given s o z f t w q = record { size = z; taken = t; formed = w; group = groupOf op; front = f; asked = q }
+  given : (s : Slot) (o : OperandData) (z : OperandSize) → takes s z o ≡ true → wellFormed o ≡ true
+      → firstNo (ofSlot (groupOf op) s off o) ≡ all-yes → Given s off o
+  given s o z t w q = record { size = z; taken = t; formed = w; group = groupOf op; asked = q }
 
 -- ---- the theorem
 module _ (insn : InstructionData) (off : ℕ) (h : off < 65536) where
@@ -147,16 +147,16 @@ module _ (insn : InstructionData) (off : ℕ) (h : off < 65536) where
       → isForm c ≡ true → firstNo (formAsked g c off a b) ≡ all-yes → Reads off (meaning insn) (written c off a b)
   chosen-reads none p wa wb e q = false-true e
   chosen-reads (straight f) p wa wb e q =
-      let y = parts (ofSlot g (f .first) (f .first) off a) (ofSlot g (f .first) (f .second) off b) q in
+      let y = parts (ofSlot g (f .first) off a) (ofSlot g (f .second) off b) q in
       subst (λ (m : Instruction). Reads off m (layout f off a b)) (all-at (by-operation op .leaves) (listed-of (p .listed)) .means (insn .«num_opers») a b (counted-of (p .listed)) (p .first) (p .second))
-      (form-reads op off h a b f (listed-of (p .listed)) (given op off (f .first) a _ (f .first) (p .first) wa (y .0))
-      (given op off (f .second) b _ (f .first) (p .second) wb (y .1)))
+      (form-reads op off h a b f (listed-of (p .listed)) (given op off (f .first) a _ (p .first) wa (y .0))
+      (given op off (f .second) b _ (p .second) wb (y .1)))
   chosen-reads (crossed f) p wa wb e q =
-      let y = parts (ofSlot g (f .first) (f .first) off b) (ofSlot g (f .first) (f .second) off a) q in
+      let y = parts (ofSlot g (f .first) off b) (ofSlot g (f .second) off a) q in
       subst (λ (m : Instruction). Reads off m (layout f off b a))
       (all-at (by-operation op .crosses) (listed-of (p .0 .listed)) .crossed (insn .«num_opers») a b (p .1) (p .0 .first) (p .0 .second))
-      (form-reads op off h b a f (listed-of (p .0 .listed)) (given op off (f .first) b _ (f .first) (p .0 .first) wb (y .0))
-      (given op off (f .second) a _ (f .first) (p .0 .second) wa (y .1)))
+      (form-reads op off h b a f (listed-of (p .0 .listed)) (given op off (f .first) b _ (p .0 .first) wb (y .0))
+      (given op off (f .second) a _ (p .0 .second) wa (y .1)))
 
   all-yes-reads : firstNo (questions insn off) ≡ all-yes → Reads off (meaning insn) (written (chosen insn) off a b)
   unfolding questions

@@ -1,4 +1,4 @@
--- The bench sheet's encoder rows (document 01) and those of document 02's Nos. 1 and 2, at every offset where the row names none. P marks the rows that 01 marks.
+-- The bench sheet's encoder rows (document 01) and those of document 02's Nos. 1, 2 and 4, at every offset where the row names none. P marks the rows that 01 marks.
 -- Assumes nothing.
 use mathlib.Core.Path.{_≡_, refl}
 use mathlib.Core.Bool.{true}
@@ -19,7 +19,7 @@ use Rattle.mrc_compiler.specs.declared.encoder.OperandSize.the-variants as S
 use Rattle.mrc_compiler.specs.declared.operations.Operation.{Operation}
 use Rattle.mrc_compiler.specs.declared.operations.Operation.the-variants as Op
 use Rattle.mrc_compiler.specs.Operations.{numberOf}
-use Rattle.mrc_compiler.specs.Builders.{immediateOperand, registerOperand, indirectOperand, noOperands, oneOperand, twoOperands}
+use Rattle.mrc_compiler.specs.Builders.{immediateOperand, farOperand, registerOperand, directOperand, indirectOperand, noOperands, oneOperand, twoOperands}
 use Rattle.x86.specs.Forms.{forms}
 use Rattle.x86.specs.Reading.{prefix}
 use Rattle.answers.specs.WellFormed.{wellFormed}
@@ -42,6 +42,9 @@ two = record { start = 5; end = 8 }
 -- records
 abbrev ax : OperandData
 ax = registerOperand one 0 S.Word
+
+abbrev al : OperandData
+al = registerOperand one 0 S.Byte
 
 abbrev immediate : ℤ → OperandData
 immediate z = immediateOperand two z
@@ -109,12 +112,30 @@ pub record Rows (off : ℕ) : Type 0 where
   pub add-ax-127 : answer (withTwo Op.ADD ax (immediate (pos 127))) off ≡ bytes (0x83 ∷ 0xC0 ∷ 0x7F ∷ [])
   pub add-ax-128 : answer (withTwo Op.ADD ax (immediate (pos 128))) off ≡ bytes (0x05 ∷ 0x80 ∷ 0x00 ∷ [])
   pub add-bx-minus-128 : answer (withTwo Op.ADD (registerOperand one 3 S.Word) (immediate (negsuc 127))) off ≡ bytes (0x83 ∷ 0xC3 ∷ 0x80 ∷ [])
-  pub add-bx-minus-129 : answer (withTwo Op.ADD (registerOperand one 3 S.Word) (immediate (negsuc 128))) off ≡ refused (E.ImmediateOutOfRange two (negsuc 128) (pos 0) (pos 65535))
+  pub add-bx-minus-129 : answer (withTwo Op.ADD (registerOperand one 3 S.Word) (immediate (negsuc 128))) off ≡ bytes (0x81 ∷ 0xC3 ∷ 0x7F ∷ 0xFF ∷ [])
   pub add-word-bx-minus-1 : answer (withTwo Op.ADD (bx one (OD.Some D.Word)) (immediate (negsuc 0))) off ≡ bytes (0x83 ∷ 0x07 ∷ 0xFF ∷ [])
-  pub add-word-bx-minus-129 : answer (withTwo Op.ADD (bx one (OD.Some D.Word)) (immediate (negsuc 128))) off ≡ refused (E.ImmediateOutOfRange two (negsuc 128) (pos 0) (pos 65535))
-  pub add-al-minus-1 : answer (withTwo Op.ADD (registerOperand one 0 S.Byte) (immediate (negsuc 0))) off ≡ refused (E.ImmediateOutOfRange two (negsuc 0) (pos 0) (pos 255))
-  pub add-byte-bx-minus-1 : answer (withTwo Op.ADD (bx one (OD.Some D.Byte)) (immediate (negsuc 0))) off ≡ refused (E.ImmediateOutOfRange two (negsuc 0) (pos 0) (pos 255))
-  pub mov-ax-minus-1 : answer (withTwo Op.MOV ax (immediate (negsuc 0))) off ≡ refused (E.ImmediateOutOfRange two (negsuc 0) (pos 0) (pos 65535))
+  pub add-word-bx-minus-129 : answer (withTwo Op.ADD (bx one (OD.Some D.Word)) (immediate (negsuc 128))) off ≡ bytes (0x81 ∷ 0x07 ∷ 0x7F ∷ 0xFF ∷ [])
+  pub add-al-minus-1 : answer (withTwo Op.ADD (registerOperand one 0 S.Byte) (immediate (negsuc 0))) off ≡ bytes (0x04 ∷ 0xFF ∷ [])
+  pub add-byte-bx-minus-1 : answer (withTwo Op.ADD (bx one (OD.Some D.Byte)) (immediate (negsuc 0))) off ≡ bytes (0x80 ∷ 0x07 ∷ 0xFF ∷ [])
+  pub mov-ax-minus-1 : answer (withTwo Op.MOV ax (immediate (negsuc 0))) off ≡ bytes (0xB8 ∷ 0xFF ∷ 0xFF ∷ [])
+  -- No. 4: one range for data immediates; the others keep theirs
+  pub mov-al-minus-1 : answer (withTwo Op.MOV al (immediate (negsuc 0))) off ≡ bytes (0xB0 ∷ 0xFF ∷ [])
+  pub mov-al-minus-128 : answer (withTwo Op.MOV al (immediate (negsuc 127))) off ≡ bytes (0xB0 ∷ 0x80 ∷ [])
+  pub mov-al-minus-129 : answer (withTwo Op.MOV al (immediate (negsuc 128))) off ≡ refused (E.ImmediateOutOfRange two (negsuc 128) (negsuc 127) (pos 255))
+  pub mov-al-256 : answer (withTwo Op.MOV al (immediate (pos 256))) off ≡ refused (E.ImmediateOutOfRange two (pos 256) (negsuc 127) (pos 255))
+  pub mov-ax-minus-32768 : answer (withTwo Op.MOV ax (immediate (negsuc 32767))) off ≡ bytes (0xB8 ∷ 0x00 ∷ 0x80 ∷ [])
+  pub mov-ax-minus-32769 : answer (withTwo Op.MOV ax (immediate (negsuc 32768))) off ≡ refused (E.ImmediateOutOfRange two (negsuc 32768) (negsuc 32767) (pos 65535))
+  pub add-ax-minus-129 : answer (withTwo Op.ADD ax (immediate (negsuc 128))) off ≡ bytes (0x05 ∷ 0x7F ∷ 0xFF ∷ [])
+  pub add-ax-70000 : answer (withTwo Op.ADD ax (immediate (pos 70000))) off ≡ refused (E.ImmediateOutOfRange two (pos 70000) (negsuc 32767) (pos 65535))
+  pub test-al-minus-1 : answer (withTwo Op.TEST al (immediate (negsuc 0))) off ≡ bytes (0xA8 ∷ 0xFF ∷ [])
+  pub test-bl-minus-129 : answer (withTwo Op.TEST (registerOperand one 3 S.Byte) (immediate (negsuc 128))) off ≡ refused (E.ImmediateOutOfRange two (negsuc 128) (negsuc 127) (pos 255))
+  pub int-minus-1 : answer (to Op.INT (negsuc 0)) off ≡ refused (E.ImmediateOutOfRange one (negsuc 0) (pos 0) (pos 255))
+  pub in-minus-1 : answer (withTwo Op.IN al (immediate (negsuc 0))) off ≡ refused (E.ImmediateOutOfRange two (negsuc 0) (pos 0) (pos 255))
+  pub out-minus-1 : answer (withTwo Op.OUT (immediateOperand one (negsuc 0)) (registerOperand two 0 S.Byte)) off ≡ refused (E.ImmediateOutOfRange one (negsuc 0) (pos 0) (pos 255))
+  pub mov-al-at-minus-1 : answer (withTwo Op.MOV al (directOperand two (negsuc 0) OD.None OG.None)) off ≡ refused (E.ImmediateOutOfRange two (negsuc 0) (pos 0) (pos 65535))
+  pub call-minus-1 : answer (to Op.CALL (negsuc 0)) off ≡ refused (E.ImmediateOutOfRange one (negsuc 0) (pos 0) (pos 65535))
+  pub jmp-far-minus-1 : answer (withOne Op.JMP (farOperand one (pos 0) (negsuc 0))) off ≡ refused (E.ImmediateOutOfRange one (negsuc 0) (pos 0) (pos 65535))
+  pub shl-minus-1 : answer (withTwo Op.SHL al (immediate (negsuc 0))) off ≡ refused (E.InvalidOperands whole)
   -- No. 1
   pub test-ax-bx : answer (withTwo Op.TEST ax (registerOperand two 3 S.Word)) off ≡ bytes (0x85 ∷ 0xD8 ∷ [])
   pub test-bx-ax : answer (withTwo Op.TEST (registerOperand one 3 S.Word) (registerOperand two 0 S.Word)) off ≡ bytes (0x85 ∷ 0xC3 ∷ [])
@@ -122,9 +143,9 @@ pub record Rows (off : ℕ) : Type 0 where
   pub test-cl-bx : answer (withTwo Op.TEST (registerOperand one 1 S.Byte) (bx two OD.None)) off ≡ bytes (0x84 ∷ 0x0F ∷ [])
   pub test-ax-5 : answer (withTwo Op.TEST ax (immediate (pos 5))) off ≡ bytes (0xA9 ∷ 0x05 ∷ 0x00 ∷ [])
   pub test-bl-255 : answer (withTwo Op.TEST (registerOperand one 3 S.Byte) (immediate (pos 255))) off ≡ bytes (0xF6 ∷ 0xC3 ∷ 0xFF ∷ [])
-  pub test-bl-300 : answer (withTwo Op.TEST (registerOperand one 3 S.Byte) (immediate (pos 300))) off ≡ refused (E.ImmediateOutOfRange two (pos 300) (pos 0) (pos 255))
+  pub test-bl-300 : answer (withTwo Op.TEST (registerOperand one 3 S.Byte) (immediate (pos 300))) off ≡ refused (E.ImmediateOutOfRange two (pos 300) (negsuc 127) (pos 255))
   pub test-word-bx : answer (withTwo Op.TEST (bx one (OD.Some D.Word)) (immediate (pos 65535))) off ≡ bytes (0xF7 ∷ 0x07 ∷ 0xFF ∷ 0xFF ∷ [])
-  pub test-word-minus-1 : answer (withTwo Op.TEST (bx one (OD.Some D.Word)) (immediate (negsuc 0))) off ≡ refused (E.ImmediateOutOfRange two (negsuc 0) (pos 0) (pos 65535))
+  pub test-word-minus-1 : answer (withTwo Op.TEST (bx one (OD.Some D.Word)) (immediate (negsuc 0))) off ≡ bytes (0xF7 ∷ 0x07 ∷ 0xFF ∷ 0xFF ∷ [])
   pub test-5-al : answer (withTwo Op.TEST (immediateOperand one (pos 5)) (registerOperand two 0 S.Byte)) off ≡ refused (E.InvalidOperands whole)
   pub push-word-bx : answer (withOne Op.PUSH (bx one (OD.Some D.Word))) off ≡ bytes (0xFF ∷ 0x37 ∷ [])
   pub push-byte-bx : answer (withOne Op.PUSH (bx one (OD.Some D.Byte))) off ≡ refused (E.InvalidOperands one)
@@ -185,6 +206,23 @@ rows off = record {
   add-al-minus-1 = refl;
   add-byte-bx-minus-1 = refl;
   mov-ax-minus-1 = refl;
+  mov-al-minus-1 = refl;
+  mov-al-minus-128 = refl;
+  mov-al-minus-129 = refl;
+  mov-al-256 = refl;
+  mov-ax-minus-32768 = refl;
+  mov-ax-minus-32769 = refl;
+  add-ax-minus-129 = refl;
+  add-ax-70000 = refl;
+  test-al-minus-1 = refl;
+  test-bl-minus-129 = refl;
+  int-minus-1 = refl;
+  in-minus-1 = refl;
+  out-minus-1 = refl;
+  mov-al-at-minus-1 = refl;
+  call-minus-1 = refl;
+  jmp-far-minus-1 = refl;
+  shl-minus-1 = refl;
   test-ax-bx = refl;
   test-bx-ax = refl;
   test-bx-cl = refl;

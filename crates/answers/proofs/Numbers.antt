@@ -116,35 +116,35 @@ given G.In = ordinarily refl (λ a b. refl)
 given G.Out = ordinarily refl (λ a b. refl)
 given G.Unsupported = ordinarily refl (λ a b. refl)
 
-of-slot : (g : Group) (f s : Slot) (off : ℕ) (o : OperandData) → numbered (ofSlot g f s off o) ≡ true
-of-slot g f (rm w) off o = refl
-of-slot g f rm-near off o = refl
-of-slot g f mem off o = refl
-of-slot g f mem-far off o = refl
-of-slot g f (reg w) off o = refl
-of-slot g f sreg off o = refl
-of-slot g f sreg-not-cs off o = refl
-of-slot g f (acc w) off o = refl
-of-slot g f (low3 w) off o = refl
-of-slot g f bits34 off o = refl
-of-slot g f bits34-not-cs off o = refl
-of-slot g f CL off o = refl
-of-slot g f DX off o = refl
-of-slot g f one off o = refl
-of-slot g f (moffs w) off o = refl
-of-slot g f xlat off o = refl
-of-slot g f ib off o = refl
-of-slot g f iw off o = refl
-of-slot g f ib-sx off o = refl
-of-slot g f cb off o = refl
-of-slot g f cw off o = refl
-of-slot g f ptr off o = refl
-of-slot g f nil off o = refl
+of-slot : (g : Group) (s : Slot) (off : ℕ) (o : OperandData) → numbered (ofSlot g s off o) ≡ true
+of-slot g (rm w) off o = refl
+of-slot g rm-near off o = refl
+of-slot g mem off o = refl
+of-slot g mem-far off o = refl
+of-slot g (reg w) off o = refl
+of-slot g sreg off o = refl
+of-slot g sreg-not-cs off o = refl
+of-slot g (acc w) off o = refl
+of-slot g (low3 w) off o = refl
+of-slot g bits34 off o = refl
+of-slot g bits34-not-cs off o = refl
+of-slot g CL off o = refl
+of-slot g DX off o = refl
+of-slot g one off o = refl
+of-slot g (moffs w) off o = refl
+of-slot g xlat off o = refl
+of-slot g ib off o = refl
+of-slot g iw off o = refl
+of-slot g ib-sx off o = refl
+of-slot g cb off o = refl
+of-slot g cw off o = refl
+of-slot g ptr off o = refl
+of-slot g nil off o = refl
 
 of-form : (g : Group) (f : Form) (off : ℕ) (a b : OperandData) → numbered (ofForm g f off a b) ≡ true
 of-form g f off a b =
-    append (ofSlot g (f .first) (f .first) off a) (ofSlot g (f .first) (f .second) off b)
-    (of-slot g (f .first) (f .first) off a) (of-slot g (f .first) (f .second) off b)
+    append (ofSlot g (f .first) off a) (ofSlot g (f .second) off b)
+    (of-slot g (f .first) off a) (of-slot g (f .second) off b)
 
 of-choice : (g : Group) (c : Choice) (off : ℕ) (a b : OperandData) → numbered (formAsked g c off a b) ≡ true
 of-choice g none off a b = refl

@@ -101,8 +101,7 @@ pub record Given (s : Slot) (off : ℕ) (o : OperandData) : Type 0 where
   pub taken : takes s size o ≡ true
   pub formed : wellFormed o ≡ true
   pub group : Group
-  pub front : Slot
-  pub asked : firstNo (ofSlot group front s off o) ≡ all-yes
+  pub asked : firstNo (ofSlot group s off o) ≡ all-yes
 
 -- the operand's numbers fit its field
 abbrev pub Bounded : Field → OperandData → Type 0

@@ -17,7 +17,7 @@ use Rattle.x86.specs.Reading.{keep, about}
 use Rattle.answers.specs.Records.{sameSize, statedOf}
 use Rattle.groups.specs.declared.Group.{Group}
 use Rattle.answers.specs.Operands.{ifImm, ifReg, ifSeg, ifMem, ifRm}
-use Rattle.answers.specs.Limits.{limits, sign-extended}
+use Rattle.answers.specs.Limits.{limits, sign-extended, shift-count}
 use Rattle.answers.specs.Rules.{Sizing, unasked, either-states, first-states, first-is-word, Special, ordinary, unordered, unordered-memory, by-count, target-first, not-supported, rule}
 
 -- does a slot take the operand o, which counts with the size s?
@@ -35,7 +35,7 @@ takes bits34 s o = ifSeg o true
 takes bits34-not-cs s o = ifSeg o (isnt (eqb (o .rm) 1))
 takes CL s o = ifReg o (both (bySize (o .size) false true false) (eqb (o .rm) 1))
 takes DX s o = ifReg o (both (bySize (o .size) false false true) (eqb (o .rm) 2))
-takes one s o = ifImm o (within (pos 1) (pos 1) (o .imm))
+takes one s o = ifImm o (within (shift-count .low) (shift-count .high) (o .imm))
 takes (moffs w) s o = ifMem o (both (sameSize w s) (isDirectAddress (o .mode) (o .rm)))
 takes xlat s o = ifMem o (both (eqb (o .mode) 0) (eqb (o .rm) 7))
 takes ib s o = ifImm o true

@@ -8,21 +8,17 @@ use Rattle.mrc_compiler.specs.declared.encoder.EncodeError.{EncodeError}
 use Rattle.mrc_compiler.specs.declared.encoder.EncodeError.the-variants as E
 use Rattle.mrc_compiler.specs.declared.encoder.OperandData.{OperandData}
 use Rattle.mrc_compiler.specs.declared.encoder.OperandSize.the-variants as S
-use Rattle.mrc_compiler.specs.Choose.{pick}
 use Rattle.mrc_compiler.specs.Values.{within}
 use Rattle.values.specs.Distances.{distanceOf, wrapped}
 use Rattle.x86.specs.Forms.{Slot, rm, rm-near, mem, mem-far, reg, sreg, sreg-not-cs, acc, low3, bits34, bits34-not-cs, CL, DX, one, moffs, xlat, ib, iw, ib-sx, cb, cw, ptr, nil, Form}
-use Rattle.x86.specs.Reading.{about, somewhere}
 use Rattle.groups.specs.declared.Group.{Group}
-use Rattle.answers.specs.Rules.{Immediate, number, number-stored, rule}
+use Rattle.answers.specs.Rules.{Immediate, number, rule}
 use Rattle.answers.specs.Rules as R
 
 -- what an immediate is
 pub data Kind : Type 0 where
   data-byte : Kind
   data-word : Kind
-  memory-byte : Kind  -- of MOV to memory
-  memory-word : Kind
   sign-extended : Kind  -- under 83
   vector : Kind
   port : Kind
@@ -40,10 +36,8 @@ to l h = record { low = l; high = h }
 
 -- 83 is chosen by its limits (Choice), so that no refusal names them
 abbrev pub limits : Kind → Range
-limits data-byte = to (pos 0) (pos 255)
-limits data-word = to (pos 0) (pos 65535)
-limits memory-byte = to (negsuc 127) (pos 255)
-limits memory-word = to (negsuc 32767) (pos 65535)
+limits data-byte = to (negsuc 127) (pos 255)
+limits data-word = to (negsuc 32767) (pos 65535)
 limits sign-extended = to (negsuc 127) (pos 127)
 limits vector = to (pos 0) (pos 255)
 limits port = to (pos 0) (pos 255)
@@ -52,26 +46,28 @@ limits address = to (pos 0) (pos 65535)
 limits target = to (pos 0) (pos 65535)
 limits segment = to (pos 0) (pos 65535)
 
--- what the immediate byte of a group's form is, and its immediate word; memory says whether the form's first slot may be memory
-abbrev pub byteBy : Immediate → Bool → Kind
-byteBy number memory = data-byte
-byteBy number-stored memory = pick memory memory-byte data-byte
-byteBy R.vector memory = vector
-byteBy R.port memory = port
-byteBy R.popped memory = popped
+-- a shift's count, by which its form is chosen (Choice)
+abbrev pub shift-count : Range
+shift-count = to (pos 1) (pos 1)
 
-abbrev pub wordBy : Immediate → Bool → Kind
-wordBy number memory = data-word
-wordBy number-stored memory = pick memory memory-word data-word
-wordBy R.vector memory = vector
-wordBy R.port memory = port
-wordBy R.popped memory = popped
+-- what the immediate byte of a group's form is, and its immediate word
+abbrev pub byteBy : Immediate → Kind
+byteBy number = data-byte
+byteBy R.vector = vector
+byteBy R.port = port
+byteBy R.popped = popped
 
-abbrev pub byteKind : Group → Bool → Kind
-byteKind g memory = byteBy (rule g .immediate) memory
+abbrev pub wordBy : Immediate → Kind
+wordBy number = data-word
+wordBy R.vector = vector
+wordBy R.port = port
+wordBy R.popped = popped
 
-abbrev pub wordKind : Group → Bool → Kind
-wordKind g memory = wordBy (rule g .immediate) memory
+abbrev pub byteKind : Group → Kind
+byteKind g = byteBy (rule g .immediate)
+
+abbrev pub wordKind : Group → Kind
+wordKind g = wordBy (rule g .immediate)
 
 -- one thing asked: is the answer yes, and the refusal where it is no
 pub record Asked : Type 0 where
@@ -93,32 +89,32 @@ shortDistance off o =
     let d = distanceOf (o .imm) off 2 in
     asked 7 (within (negsuc 127) (pos 127) d) (E.RelativeJumpOutOfRange (o .span) S.Byte true (wrapped d))
 
--- what is asked of the operand in a slot of a form that is of group g and has the first slot s
-abbrev pub ofSlot : Group → Slot → Slot → ℕ → OperandData → List Asked
-ofSlot g s (rm w) off o = []
-ofSlot g s rm-near off o = []
-ofSlot g s mem off o = []
-ofSlot g s mem-far off o = []
-ofSlot g s (reg w) off o = []
-ofSlot g s sreg off o = []
-ofSlot g s sreg-not-cs off o = []
-ofSlot g s (acc w) off o = []
-ofSlot g s (low3 w) off o = []
-ofSlot g s bits34 off o = []
-ofSlot g s bits34-not-cs off o = []
-ofSlot g s CL off o = []
-ofSlot g s DX off o = []
-ofSlot g s one off o = []
-ofSlot g s (moffs w) off o = inLimits address (o .displacement) o ∷ []
-ofSlot g s xlat off o = []
-ofSlot g s ib off o = inLimits (byteKind g (somewhere (about s .place))) (o .imm) o ∷ []
-ofSlot g s iw off o = inLimits (wordKind g (somewhere (about s .place))) (o .imm) o ∷ []
-ofSlot g s ib-sx off o = inLimits sign-extended (o .imm) o ∷ []
-ofSlot g s cb off o = shortDistance off o ∷ []
-ofSlot g s cw off o = inLimits target (o .imm) o ∷ []
-ofSlot g s ptr off o = inLimits target (o .imm) o ∷ inLimits segment (o .displacement) o ∷ []
-ofSlot g s nil off o = []
+-- what is asked of the operand in a slot of a form of group g
+abbrev pub ofSlot : Group → Slot → ℕ → OperandData → List Asked
+ofSlot g (rm w) off o = []
+ofSlot g rm-near off o = []
+ofSlot g mem off o = []
+ofSlot g mem-far off o = []
+ofSlot g (reg w) off o = []
+ofSlot g sreg off o = []
+ofSlot g sreg-not-cs off o = []
+ofSlot g (acc w) off o = []
+ofSlot g (low3 w) off o = []
+ofSlot g bits34 off o = []
+ofSlot g bits34-not-cs off o = []
+ofSlot g CL off o = []
+ofSlot g DX off o = []
+ofSlot g one off o = []
+ofSlot g (moffs w) off o = inLimits address (o .displacement) o ∷ []
+ofSlot g xlat off o = []
+ofSlot g ib off o = inLimits (byteKind g) (o .imm) o ∷ []
+ofSlot g iw off o = inLimits (wordKind g) (o .imm) o ∷ []
+ofSlot g ib-sx off o = inLimits sign-extended (o .imm) o ∷ []
+ofSlot g cb off o = shortDistance off o ∷ []
+ofSlot g cw off o = inLimits target (o .imm) o ∷ []
+ofSlot g ptr off o = inLimits target (o .imm) o ∷ inLimits segment (o .displacement) o ∷ []
+ofSlot g nil off o = []
 
 -- what is asked of the operands in a form's slots
 abbrev pub ofForm : Group → Form → ℕ → OperandData → OperandData → List Asked
-ofForm g f off a b = ofSlot g (f .first) (f .first) off a ++ ofSlot g (f .first) (f .second) off b
+ofForm g f off a b = ofSlot g (f .first) off a ++ ofSlot g (f .second) off b

@@ -26,7 +26,6 @@ pub data Sizing : Type 0 where
 -- question 6: what the immediate byte or word of a form is
 pub data Immediate : Type 0 where
   number : Immediate
-  number-stored : Immediate  -- of MOV: into memory it may be negative
   vector : Immediate
   port : Immediate
   popped : Immediate  -- of RET: the bytes that it takes off the stack
@@ -95,7 +94,7 @@ else-4-first = first-states W.InvalidOperandSize At.First
 abbrev pub rule : Group → Rule
 rule G.Arithmetic = row either-states number at-operands ofTwo
 rule G.Unary = row else-2 number at-operands ofFirst
-rule G.Mov = row either-states number-stored at-operands ofTwo
+rule G.Mov = row either-states number at-operands ofTwo
 rule G.Test = row-of unordered-memory either-states number at-operands ofTwo
 rule G.Xchg = row-of unordered either-states number at-operands ofTwo
 rule G.IncDec = row else-4-first number at-operands ofFirst

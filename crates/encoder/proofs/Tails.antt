@@ -16,14 +16,14 @@ use Rattle.mrc_compiler.specs.declared.encoder.generate.Code.the-variants as C
 use Rattle.mrc_compiler.specs.Choose.{pick}
 use Rattle.values.specs.Distances.{distanceOf}
 use Rattle.x86.specs.Forms.{Slot, rm, rm-near, mem, mem-far, reg, sreg, sreg-not-cs, acc, low3, bits34, bits34-not-cs, CL, DX, one, moffs, xlat, ib, iw, ib-sx, cb, cw, ptr, nil}
-use Rattle.x86.specs.Reading.{Place, nowhere, by-modrm, about, somewhere}
+use Rattle.x86.specs.Reading.{Place, nowhere, by-modrm, about}
 use Rattle.x86.specs.Reading as R
 use Rattle.x86.proofs.Tests.{is-true}
 use Rattle.answers.specs.WellFormed.{wellFormed}
 use Rattle.groups.specs.declared.Group.{Group}
 use Rattle.answers.specs.Choice.{takes}
 use Rattle.answers.specs.Layout.{byteOf, wordOf, part}
-use Rattle.answers.specs.Limits.{Kind, data-byte, data-word, memory-byte, memory-word, sign-extended, vector, port, popped, address, target, segment, limits, byteKind, wordKind, inLimits, shortDistance, ofSlot}
+use Rattle.answers.specs.Limits.{Kind, data-byte, data-word, sign-extended, vector, port, popped, address, target, segment, limits, byteKind, wordKind, inLimits, shortDistance, ofSlot}
 use Rattle.answers.specs.Answer.{firstNo, Answer, answered, bytes}
 use Rattle.answers.proofs.Operands.{imm-taken, mem-taken, mem-in-rm, taken-in-rm, taken-reg, taken-seg, taken-mem}
 use Rattle.answers.proofs.Slots.{Field, in-rm, in-reg, in-low3, in-bits34, by-address, by-bx-al, distance, elsewhere, field, placeOf, Bounded}
@@ -63,8 +63,6 @@ isLow3 elsewhere = false
 abbrev width : Kind → ℕ
 width data-byte = 1
 width data-word = 2
-width memory-byte = 1
-width memory-word = 2
 width sign-extended = 0
 width vector = 1
 width port = 1
@@ -73,17 +71,15 @@ width address = 0
 width target = 0
 width segment = 0
 
--- of an immediate byte the kind is one of a byte, of an immediate word one of a word; f is the form's first slot
-abbrev pub kindFits : Group → Slot → ℕ → Bool
-kindFits g f n =
-    let m = somewhere (about f .place) in
-    pick (eqb n 1) (eqb (width (byteKind g m)) 1) (pick (eqb n 2) (eqb (width (wordKind g m)) 2) true)
+-- of an immediate byte the kind is one of a byte, of an immediate word one of a word
+abbrev pub kindFits : Group → ℕ → Bool
+kindFits g n = pick (eqb n 1) (eqb (width (byteKind g)) 1) (pick (eqb n 2) (eqb (width (wordKind g)) 2) true)
 
 -- a list of one code
 alone : {x y : Answer} → x ≡ y → x ≡ joined y (bytes [])
 alone {y = y} e = e ∙ sym (joined-nil y)
 
--- ---- an operand in a slot s of a form of group g with first slot f
+-- ---- an operand in a slot s of a form of group g
 module _ (insn : InstructionData) (off k : ℕ) where
   abbrev o : OperandData
   o = operand insn k
@@ -99,8 +95,6 @@ module _ (insn : InstructionData) (off k : ℕ) where
   unfolding immediateByte immediateWord
   immediate-is data-byte h = refl
   immediate-is data-word h = refl
-  immediate-is memory-byte h = refl
-  immediate-is memory-word h = refl
   immediate-is sign-extended h = absurd (omega arith)
   immediate-is vector h = refl
   immediate-is port h = refl
@@ -127,20 +121,20 @@ module _ (insn : InstructionData) (off k : ℕ) where
       asked-joined (inLimits target (o .imm) o ∷ []) (inLimits segment (o .displacement) o ∷ []) (wordOf (o .imm)) (wordOf (o .displacement))
       ∙ rw (limited target (o .imm) (wordOf (o .imm)), limited segment (o .displacement) (wordOf (o .displacement)))
 
-  module _ (g : Group) (f : Slot) where
+  module _ (g : Group) where
     -- what is asked in a slot, with its bytes behind opcode and ModRM, is what its codes answer; how many they are; and where the operand stands
     pub record SlotTied (s : Slot) : Type 0 where
-      pub answers : answered (firstNo (ofSlot g f s off o)) (behind (placeOf (field s)) o ++ part s off o .immediate) ≡ listed insn off (tail g f s k)
-      pub count : length (tail g f s k) ≡ codes (placeOf (field s)) (about s .takes)
+      pub answers : answered (firstNo (ofSlot g s off o)) (behind (placeOf (field s)) o ++ part s off o .immediate) ≡ listed insn off (tail g s k)
+      pub count : length (tail g s k) ≡ codes (placeOf (field s)) (about s .takes)
       pub low3-is : inLow3 s ≡ isLow3 (field s)
       pub fits : Bounded (field s) o
 
-    slot-by : {s : Slot} → answered (firstNo (ofSlot g f s off o)) (behind (placeOf (field s)) o ++ part s off o .immediate) ≡ listed insn off (tail g f s k)
-        → length (tail g f s k) ≡ codes (placeOf (field s)) (about s .takes) → inLow3 s ≡ isLow3 (field s) → Bounded (field s) o → SlotTied s
+    slot-by : {s : Slot} → answered (firstNo (ofSlot g s off o)) (behind (placeOf (field s)) o ++ part s off o .immediate) ≡ listed insn off (tail g s k)
+        → length (tail g s k) ≡ codes (placeOf (field s)) (about s .takes) → inLow3 s ≡ isLow3 (field s) → Bounded (field s) o → SlotTied s
     slot-by a c l b = record { answers = a; count = c; low3-is = l; fits = b }
 
     -- every slot, with an operand that it takes
-    pub slot-tied : (s : Slot) (z : OperandSize) → takes s z o ≡ true → wellFormed o ≡ true → T (kindFits g f (about s .takes)) → SlotTied s
+    pub slot-tied : (s : Slot) (z : OperandSize) → takes s z o ≡ true → wellFormed o ≡ true → T (kindFits g (about s .takes)) → SlotTied s
     unfolding immediateWord relativeByte relativeWord
     slot-tied (rm w) z t h q = slot-by refl refl refl (taken-in-rm o h _ t)
     slot-tied rm-near z t h q = slot-by refl refl refl (taken-in-rm o h _ t)
@@ -159,10 +153,10 @@ module _ (insn : InstructionData) (off k : ℕ) where
     slot-tied (moffs w) z t h q = slot-by (alone (limited address (o .displacement) (wordOf (o .displacement)))) refl refl (taken-mem o h _ t)
     slot-tied xlat z t h q = slot-by refl refl refl (taken-mem o h _ t)
     slot-tied ib z t h q =
-        let w = byteKind g (somewhere (about f .place)) in
+        let w = byteKind g in
         slot-by (alone (immediate-asked w 1 (eqb-true (width w) 1 (is-true _ q)) (omega arith))) refl refl tt
     slot-tied iw z t h q =
-        let w = wordKind g (somewhere (about f .place)) in
+        let w = wordKind g in
         slot-by (alone (immediate-asked w 2 (eqb-true (width w) 2 (is-true _ q)) (omega arith))) refl refl tt
     slot-tied ib-sx z t h q = slot-by (alone (extended-asked z t)) refl refl tt
     slot-tied cb z t h q = slot-by (alone (first-asked (shortDistance off o) [] (byteOf (distanceOf (o .imm) off 2)))) refl refl tt

@@ -51,10 +51,10 @@ codesBehind f =
     + (codes (placeOf (field (f .first))) (about (f .first) .takes) + codes (placeOf (field (f .second))) (about (f .second) .takes))
 
 abbrev firstFits : Form → Bool
-firstFits f = kindFits (groupOf (f .operation)) (f .first) (about (f .first) .takes)
+firstFits f = kindFits (groupOf (f .operation)) (about (f .first) .takes)
 
 abbrev secondFits : Form → Bool
-secondFits f = kindFits (groupOf (f .operation)) (f .first) (about (f .second) .takes)
+secondFits f = kindFits (groupOf (f .operation)) (about (f .second) .takes)
 
 few-codes : T (eachOf (λ f. leb (codesBehind f) 1) forms)
 unfolding forms
@@ -103,11 +103,11 @@ module _ (insn : InstructionData) (off i j : ℕ) (other-i : other insn i ≡ op
   few = leb→le _ 1 (each-at (λ f. leb (codesBehind f) 1) forms few-codes m)
 
   -- what the codes of each slot answer
-  slot-a : SlotTied insn off i g (f .first) (f .first)
-  slot-a = slot-tied insn off i g (f .first) (f .first) y ta wa (fit .0)
+  slot-a : SlotTied insn off i g (f .first)
+  slot-a = slot-tied insn off i g (f .first) y ta wa (fit .0)
 
-  slot-b : SlotTied insn off j g (f .first) (f .second)
-  slot-b = slot-tied insn off j g (f .first) (f .second) z tb wb (fit .1)
+  slot-b : SlotTied insn off j g (f .second)
+  slot-b = slot-tied insn off j g (f .second) z tb wb (fit .1)
 
   first-by : ByField (f .first) off a
   first-by = by-field (f .first) off a
@@ -135,12 +135,12 @@ module _ (insn : InstructionData) (off i j : ℕ) (other-i : other insn i ≡ op
   abbrev inParts : Answer
   inParts =
       joined (bytes (in-front .front)) (joined (bytes (in-front .more))
-      (joined (listed insn off (tail g (f .first) (f .first) i)) (listed insn off (tail g (f .first) (f .second) j))))
+      (joined (listed insn off (tail g (f .first) i)) (listed insn off (tail g (f .second) j))))
 
   asked-in-parts : answered (firstNo (ofForm g f off a b)) (layout f off a b) ≡ inParts
   asked-in-parts =
-      let qs = ofSlot g (f .first) (f .first) off a in
-      let rs = ofSlot g (f .first) (f .second) off b in
+      let qs = ofSlot g (f .first) off a in
+      let rs = ofSlot g (f .second) off b in
       let x = behind (placeOf F) a ++ u in
       let y = behind (placeOf G) b ++ v in
       ap (λ (l : List ℕ). answered (firstNo (qs ++ rs)) l) (laid-out ∙ in-front .layout-is)
@@ -154,8 +154,8 @@ module _ (insn : InstructionData) (off i j : ℕ) (other-i : other insn i ≡ op
 
   coded-in-parts : planAnswer (formPlan g f i j) insn off ≡ inParts
   coded-in-parts =
-      let cs = tail g (f .first) (f .first) i in
-      let ds = tail g (f .first) (f .second) j in
+      let cs = tail g (f .first) i in
+      let ds = tail g (f .second) j in
       emits insn off (head (f .extension) (f .opcode) (f .first) (f .second) i j) (fixed (f .extension) ++ (cs ++ ds))
       (omega (arith, few, length-append (fixed (f .extension)) (cs ++ ds), length-append cs ds, slot-a .count, slot-b .count))
       ∙ rw (listed-append insn off (fixed (f .extension)) (cs ++ ds), listed-append insn off cs ds, in-front .front-is, in-front .more-is)

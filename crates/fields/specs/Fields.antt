@@ -16,6 +16,7 @@ use Rattle.mrc_compiler.specs.Choose.{pick}
 use Rattle.mrc_compiler.specs.Values.{within}
 use Rattle.values.specs.Distances.{distanceOf, wrapped}
 use Rattle.answers.specs.Records.{dst, src}
+use Rattle.answers.specs.Limits.{data-byte, data-word, vector, popped, address, target, segment, limits}
 use Rattle.answers.specs.Layout.{wordBytes, byteOf, wordOf, prefixBytes, displacementBytes}
 use Rattle.answers.specs.Answer.{Answer, bytes, refused}
 use Rattle.fields.specs.declared.Refusal.{Refusal}
@@ -63,7 +64,7 @@ relativeByte o off size =
 
 -- a distance word of an instruction of three bytes
 unfoldable pub relativeWord : OperandData → ℕ → Answer
-relativeWord o off = ranged (pos 0) (pos 65535) (o .imm) (o .span) (wordOf (distanceOf (o .imm) off 3))
+relativeWord o off = ranged (limits target .low) (limits target .high) (o .imm) (o .span) (wordOf (distanceOf (o .imm) off 3))
 
 -- the fields are taken modulo their widths: in a well-formed operand they are below
 abbrev pub modRmByte : ℕ → ℕ → ℕ → ℕ
@@ -86,19 +87,20 @@ other insn k = pick (eqb k 0) (src insn) (dst insn)
 
 abbrev pub codeAnswer : Code → InstructionData → ℕ → Answer
 codeAnswer (C.Byte b) insn off = bytes (b ∷ [])
-codeAnswer (C.ImmByte k) insn off = immediateByte (pos 0) (pos 255) (operand insn k .imm) (operand insn k .span)
-codeAnswer (C.ImmWord k) insn off = immediateWord (pos 0) (pos 65535) (operand insn k .imm) (operand insn k .span)
-codeAnswer (C.DispWord k) insn off = immediateWord (pos 0) (pos 65535) (operand insn k .displacement) (operand insn k .span)
+codeAnswer (C.ImmByte k) insn off = immediateByte (limits data-byte .low) (limits data-byte .high) (operand insn k .imm) (operand insn k .span)
+codeAnswer (C.ImmWord k) insn off = immediateWord (limits data-word .low) (limits data-word .high) (operand insn k .imm) (operand insn k .span)
+codeAnswer (C.DispWord k) insn off = immediateWord (limits address .low) (limits address .high) (operand insn k .displacement) (operand insn k .span)
 codeAnswer (C.RelByte k size) insn off = relativeByte (operand insn k) off size
 codeAnswer (C.ModRegRM k op) insn off = bytes (modRegRm op (operand insn k) (other insn k .rm))
 codeAnswer (C.ModRM k op reg) insn off = bytes (modRegRm op (operand insn k) reg)
 codeAnswer (C.RegByte k op) insn off = bytes ((op + operand insn k .rm % 8) % 256 ∷ [])
 codeAnswer (C.SegByte k op) insn off = bytes ((op + 8 * (operand insn k .rm % 4)) % 256 ∷ [])
 codeAnswer (C.MemByte k op) insn off = bytes (prefixBytes (operand insn k .«segment_prefix») ++ (op ∷ []))
-codeAnswer (C.ImmSignedByte k) insn off = immediateByte (negsuc 127) (pos 255) (operand insn k .imm) (operand insn k .span)
-codeAnswer (C.ImmSignedWord k) insn off = immediateWord (negsuc 32767) (pos 65535) (operand insn k .imm) (operand insn k .span)
+-- a port has a vector's limits
+codeAnswer (C.UnsignedByte k) insn off = immediateByte (limits vector .low) (limits vector .high) (operand insn k .imm) (operand insn k .span)
+codeAnswer (C.UnsignedWord k) insn off = immediateWord (limits popped .low) (limits popped .high) (operand insn k .imm) (operand insn k .span)
 codeAnswer (C.ImmSignExtended k) insn off = bytes (byteOf (operand insn k .imm))
 codeAnswer (C.RelWord k) insn off = relativeWord (operand insn k) off
 codeAnswer (C.FarWords k) insn off =
-    joined (immediateWord (pos 0) (pos 65535) (operand insn k .imm) (operand insn k .span))
-    (immediateWord (pos 0) (pos 65535) (operand insn k .displacement) (operand insn k .span))
+    joined (immediateWord (limits target .low) (limits target .high) (operand insn k .imm) (operand insn k .span))
+    (immediateWord (limits segment .low) (limits segment .high) (operand insn k .displacement) (operand insn k .span))

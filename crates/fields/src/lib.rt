@@ -2,9 +2,9 @@
 ghost use mathlib.Core.Path.{_≡_};
 ghost use mathlib.Core.List.{[], _∷_, _++_};
 ghost use Prim.Native.Nat.{_+_, _*_, _/_, _%_};
-ghost use lib.IntN.{pos};
 ghost use Rattle.answers.specs.Answer.{bytes, refused};
 ghost use Rattle.answers.specs.Layout.{prefixBytes, displacementBytes};
+ghost use Rattle.answers.specs.Limits.{target, segment, limits};
 ghost use Rattle.mrc_compiler.specs.declared.encoder.EncodeError.the-variants.{ImmediateOutOfRange};
 ghost use Rattle.fields.specs.Fields.{fieldBytes, answerOf, immediateByte, immediateWord, relativeByte, relativeWord, modRmByte, modRegRm, joined, isRefused, operand, other, codeAnswer};
 use mrc_compiler::ast::Span;
@@ -179,7 +179,7 @@ fn relative_word(oper: OperandData, offset: u16) -> Fields
 
 // The target's offset, then its segment: two words, which stand in the fields of an opcode and of its value.
 fn far_words(oper: OperandData) -> Fields
-    ensures { λ r. ⌜ answerOf r ≡ joined (immediateWord (pos 0) (pos 65535) (oper .imm) (oper .span)) (immediateWord (pos 0) (pos 65535) (oper .displacement) (oper .span)) ⌝ }
+    ensures { λ r. ⌜ answerOf r ≡ joined (immediateWord (limits target .low) (limits target .high) (oper .imm) (oper .span)) (immediateWord (limits segment .low) (limits segment .high) (oper .displacement) (oper .span)) ⌝ }
 {
     let span = oper.span;
     let target = oper.imm;
@@ -237,11 +237,11 @@ pub fn fields_of(insn: InstructionData, offset: u16, code: Code) -> Fields
         Code::Byte(byte) => value_field(Field::Byte(byte)),
         Code::ImmByte(k) => {
             let oper = operand_of(insn, k);
-            byte_within(0, 255, oper.imm, oper.span)
+            byte_within(-128, 255, oper.imm, oper.span)
         }
         Code::ImmWord(k) => {
             let oper = operand_of(insn, k);
-            word_within(0, 65535, oper.imm, oper.span)
+            word_within(-32768, 65535, oper.imm, oper.span)
         }
         Code::DispWord(k) => {
             let oper = operand_of(insn, k);
@@ -266,13 +266,13 @@ pub fn fields_of(insn: InstructionData, offset: u16, code: Code) -> Fields
             let oper = operand_of(insn, k);
             prefixed_op_code(oper.segment_prefix, op_code)
         }
-        Code::ImmSignedByte(k) => {
+        Code::UnsignedByte(k) => {
             let oper = operand_of(insn, k);
-            byte_within(-128, 255, oper.imm, oper.span)
+            byte_within(0, 255, oper.imm, oper.span)
         }
-        Code::ImmSignedWord(k) => {
+        Code::UnsignedWord(k) => {
             let oper = operand_of(insn, k);
-            word_within(-32768, 65535, oper.imm, oper.span)
+            word_within(0, 65535, oper.imm, oper.span)
         }
         Code::ImmSignExtended(k) => {
             let oper = operand_of(insn, k);

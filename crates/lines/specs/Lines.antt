@@ -20,14 +20,10 @@ abbrev pub bit : DataSize → ℕ
 bit Z.Byte = 0
 bit Z.Word = 1
 
--- the code of an immediate of a size, and of one that may be negative
+-- the code of an immediate of a size
 abbrev pub immediate : DataSize → Code
 immediate Z.Byte = C.ImmByte 1
 immediate Z.Word = C.ImmWord 1
-
-abbrev pub stored : DataSize → Code
-stored Z.Byte = C.ImmSignedByte 1
-stored Z.Word = C.ImmSignedWord 1
 
 -- one or two codes
 abbrev pub oneCode : Code → Codes
@@ -36,68 +32,68 @@ oneCode c = record { first = c; second = c; count = 1 }
 abbrev pub twoCodes : Code → Code → Codes
 twoCodes c d = record { first = c; second = d; count = 2 }
 
--- w is the size's bit, imm and stored are its codes
-abbrev pub linePlan : Line → ℕ → Code → Code → ℕ → Plan
-linePlan L.ArithRmReg w imm stored base = P.Emit (oneCode (C.ModRegRM 0 ((base + w) % 256)))
-linePlan L.ArithRegRm w imm stored base = P.Emit (oneCode (C.ModRegRM 1 ((base + (2 + w)) % 256)))
-linePlan L.ArithRmImmSx w imm stored base = P.Emit (twoCodes (C.ModRM 0 0x83 (base / 8)) (C.ImmSignExtended 1))
-linePlan L.ArithAccImm w imm stored base = P.Emit (twoCodes (C.Byte ((base + (4 + w)) % 256)) imm)
-linePlan L.ArithRmImm w imm stored base = P.Emit (twoCodes (C.ModRM 0 (0x80 + w) (base / 8)) imm)
-linePlan L.UnaryRm w imm stored base = P.Emit (oneCode (C.ModRM 0 (0xF6 + w) base))
-linePlan L.IncReg w imm stored base = P.Emit (oneCode (C.RegByte 0 ((0x40 + 8 * base) % 256)))
-linePlan L.IncRm w imm stored base = P.Emit (oneCode (C.ModRM 0 (0xFE + w) base))
-linePlan L.MovAccMoffs w imm stored base = P.Emit (twoCodes (C.MemByte 1 (0xA0 + w)) (C.DispWord 1))
-linePlan L.MovMoffsAcc w imm stored base = P.Emit (twoCodes (C.MemByte 0 (0xA2 + w)) (C.DispWord 0))
-linePlan L.MovRmReg w imm stored base = P.Emit (oneCode (C.ModRegRM 0 (0x88 + w)))
-linePlan L.MovRegRm w imm stored base = P.Emit (oneCode (C.ModRegRM 1 (0x8A + w)))
-linePlan L.MovRmSreg w imm stored base = P.Emit (oneCode (C.ModRegRM 0 0x8C))
-linePlan L.MovSregRm w imm stored base = P.Emit (oneCode (C.ModRegRM 1 0x8E))
-linePlan L.MovRegImm w imm stored base = P.Emit (twoCodes (C.RegByte 0 (0xB0 + 8 * w)) imm)
-linePlan L.MovRmImm w imm stored base = P.Emit (twoCodes (C.ModRM 0 (0xC6 + w) 0) stored)
-linePlan L.XchgAccReg w imm stored base = P.Emit (oneCode (C.RegByte 1 0x90))
-linePlan L.XchgRegAcc w imm stored base = P.Emit (oneCode (C.RegByte 0 0x90))
-linePlan L.XchgRegRm w imm stored base = P.Emit (oneCode (C.ModRegRM 1 (0x86 + w)))
-linePlan L.XchgRmReg w imm stored base = P.Emit (oneCode (C.ModRegRM 0 (0x86 + w)))
-linePlan L.TestRmReg w imm stored base = P.Emit (oneCode (C.ModRegRM 0 (0x84 + w)))
-linePlan L.TestRegRm w imm stored base = P.Emit (oneCode (C.ModRegRM 1 (0x84 + w)))
-linePlan L.TestAccImm w imm stored base = P.Emit (twoCodes (C.Byte (0xA8 + w)) imm)
-linePlan L.TestRmImm w imm stored base = P.Emit (twoCodes (C.ModRM 0 (0xF6 + w) 0) imm)
-linePlan L.PushReg w imm stored base = P.Emit (oneCode (C.RegByte 0 0x50))
-linePlan L.PushSreg w imm stored base = P.Emit (oneCode (C.SegByte 0 0x06))
-linePlan L.PushRm w imm stored base = P.Emit (oneCode (C.ModRM 0 0xFF 6))
-linePlan L.PopReg w imm stored base = P.Emit (oneCode (C.RegByte 0 0x58))
-linePlan L.PopSreg w imm stored base = P.Emit (oneCode (C.SegByte 0 0x07))
-linePlan L.PopRm w imm stored base = P.Emit (oneCode (C.ModRM 0 0x8F 0))
-linePlan L.LoadRegMem w imm stored base = P.Emit (oneCode (C.ModRegRM 1 base))
-linePlan L.ShiftRmOne w imm stored base = P.Emit (oneCode (C.ModRM 0 (0xD0 + w) base))
-linePlan L.ShiftRmCl w imm stored base = P.Emit (oneCode (C.ModRM 0 (0xD2 + w) base))
-linePlan L.CallRel w imm stored base = P.Emit (twoCodes (C.Byte 0xE8) (C.RelWord 0))
-linePlan L.CallRm w imm stored base = P.Emit (oneCode (C.ModRM 0 0xFF 2))
-linePlan L.CallMemFar w imm stored base = P.Emit (oneCode (C.ModRM 0 0xFF 3))
-linePlan L.JmpRel w imm stored base = P.Emit (twoCodes (C.Byte 0xE9) (C.RelWord 0))
-linePlan L.JmpPtr w imm stored base = P.Emit (twoCodes (C.Byte 0xEA) (C.FarWords 0))
-linePlan L.JmpShort w imm stored base = P.Emit (twoCodes (C.Byte 0xEB) (C.RelByte 0 2))
-linePlan L.JmpRm w imm stored base = P.Emit (oneCode (C.ModRM 0 0xFF 4))
-linePlan L.ShortRel w imm stored base = P.Emit (twoCodes (C.Byte base) (C.RelByte 0 2))
-linePlan L.IntImm w imm stored base = P.Emit (twoCodes (C.Byte 0xCD) (C.ImmByte 0))
-linePlan L.XlatMem w imm stored base = P.Emit (oneCode (C.MemByte 0 0xD7))
-linePlan L.InAccImm w imm stored base = P.Emit (twoCodes (C.Byte (0xE4 + w)) (C.ImmByte 1))
-linePlan L.InAccDx w imm stored base = P.Emit (oneCode (C.Byte (0xEC + w)))
-linePlan L.OutImmAcc w imm stored base = P.Emit (twoCodes (C.Byte (0xE6 + w)) (C.ImmByte 0))
-linePlan L.OutDxAcc w imm stored base = P.Emit (oneCode (C.Byte (0xEE + w)))
-linePlan L.Aam w imm stored base = P.Emit (twoCodes (C.Byte 0xD4) (C.Byte 0x0A))
-linePlan L.Aad w imm stored base = P.Emit (twoCodes (C.Byte 0xD5) (C.Byte 0x0A))
-linePlan L.Ret w imm stored base = P.Emit (oneCode (C.Byte 0xC3))
-linePlan L.RetImm w imm stored base = P.Emit (twoCodes (C.Byte 0xC2) (C.ImmWord 0))
-linePlan L.Single w imm stored base = P.Emit (oneCode (C.Byte base))
-linePlan L.InvalidOperands w imm stored base = P.Refused W.InvalidOperands At.Operands
-linePlan L.InvalidFirst w imm stored base = P.Refused W.InvalidOperands At.First
-linePlan L.SizeNotSpecified w imm stored base = P.Refused W.OperandSizeNotSpecified At.Operands
-linePlan L.SizeNotSpecifiedFirst w imm stored base = P.Refused W.OperandSizeNotSpecified At.First
-linePlan L.SizesDoNotMatch w imm stored base = P.Refused W.OperandSizesDoNotMatch At.Operands
-linePlan L.InvalidSize w imm stored base = P.Refused W.InvalidOperandSize At.First
-linePlan L.TargetOutOfRange w imm stored base = P.Refused W.TargetOutOfRange At.First
-linePlan L.NotSupported w imm stored base = P.Refused W.NotSupported At.Operands
+-- w is the size's bit, imm the code of its immediate
+abbrev pub linePlan : Line → ℕ → Code → ℕ → Plan
+linePlan L.ArithRmReg w imm base = P.Emit (oneCode (C.ModRegRM 0 ((base + w) % 256)))
+linePlan L.ArithRegRm w imm base = P.Emit (oneCode (C.ModRegRM 1 ((base + (2 + w)) % 256)))
+linePlan L.ArithRmImmSx w imm base = P.Emit (twoCodes (C.ModRM 0 0x83 (base / 8)) (C.ImmSignExtended 1))
+linePlan L.ArithAccImm w imm base = P.Emit (twoCodes (C.Byte ((base + (4 + w)) % 256)) imm)
+linePlan L.ArithRmImm w imm base = P.Emit (twoCodes (C.ModRM 0 (0x80 + w) (base / 8)) imm)
+linePlan L.UnaryRm w imm base = P.Emit (oneCode (C.ModRM 0 (0xF6 + w) base))
+linePlan L.IncReg w imm base = P.Emit (oneCode (C.RegByte 0 ((0x40 + 8 * base) % 256)))
+linePlan L.IncRm w imm base = P.Emit (oneCode (C.ModRM 0 (0xFE + w) base))
+linePlan L.MovAccMoffs w imm base = P.Emit (twoCodes (C.MemByte 1 (0xA0 + w)) (C.DispWord 1))
+linePlan L.MovMoffsAcc w imm base = P.Emit (twoCodes (C.MemByte 0 (0xA2 + w)) (C.DispWord 0))
+linePlan L.MovRmReg w imm base = P.Emit (oneCode (C.ModRegRM 0 (0x88 + w)))
+linePlan L.MovRegRm w imm base = P.Emit (oneCode (C.ModRegRM 1 (0x8A + w)))
+linePlan L.MovRmSreg w imm base = P.Emit (oneCode (C.ModRegRM 0 0x8C))
+linePlan L.MovSregRm w imm base = P.Emit (oneCode (C.ModRegRM 1 0x8E))
+linePlan L.MovRegImm w imm base = P.Emit (twoCodes (C.RegByte 0 (0xB0 + 8 * w)) imm)
+linePlan L.MovRmImm w imm base = P.Emit (twoCodes (C.ModRM 0 (0xC6 + w) 0) imm)
+linePlan L.XchgAccReg w imm base = P.Emit (oneCode (C.RegByte 1 0x90))
+linePlan L.XchgRegAcc w imm base = P.Emit (oneCode (C.RegByte 0 0x90))
+linePlan L.XchgRegRm w imm base = P.Emit (oneCode (C.ModRegRM 1 (0x86 + w)))
+linePlan L.XchgRmReg w imm base = P.Emit (oneCode (C.ModRegRM 0 (0x86 + w)))
+linePlan L.TestRmReg w imm base = P.Emit (oneCode (C.ModRegRM 0 (0x84 + w)))
+linePlan L.TestRegRm w imm base = P.Emit (oneCode (C.ModRegRM 1 (0x84 + w)))
+linePlan L.TestAccImm w imm base = P.Emit (twoCodes (C.Byte (0xA8 + w)) imm)
+linePlan L.TestRmImm w imm base = P.Emit (twoCodes (C.ModRM 0 (0xF6 + w) 0) imm)
+linePlan L.PushReg w imm base = P.Emit (oneCode (C.RegByte 0 0x50))
+linePlan L.PushSreg w imm base = P.Emit (oneCode (C.SegByte 0 0x06))
+linePlan L.PushRm w imm base = P.Emit (oneCode (C.ModRM 0 0xFF 6))
+linePlan L.PopReg w imm base = P.Emit (oneCode (C.RegByte 0 0x58))
+linePlan L.PopSreg w imm base = P.Emit (oneCode (C.SegByte 0 0x07))
+linePlan L.PopRm w imm base = P.Emit (oneCode (C.ModRM 0 0x8F 0))
+linePlan L.LoadRegMem w imm base = P.Emit (oneCode (C.ModRegRM 1 base))
+linePlan L.ShiftRmOne w imm base = P.Emit (oneCode (C.ModRM 0 (0xD0 + w) base))
+linePlan L.ShiftRmCl w imm base = P.Emit (oneCode (C.ModRM 0 (0xD2 + w) base))
+linePlan L.CallRel w imm base = P.Emit (twoCodes (C.Byte 0xE8) (C.RelWord 0))
+linePlan L.CallRm w imm base = P.Emit (oneCode (C.ModRM 0 0xFF 2))
+linePlan L.CallMemFar w imm base = P.Emit (oneCode (C.ModRM 0 0xFF 3))
+linePlan L.JmpRel w imm base = P.Emit (twoCodes (C.Byte 0xE9) (C.RelWord 0))
+linePlan L.JmpPtr w imm base = P.Emit (twoCodes (C.Byte 0xEA) (C.FarWords 0))
+linePlan L.JmpShort w imm base = P.Emit (twoCodes (C.Byte 0xEB) (C.RelByte 0 2))
+linePlan L.JmpRm w imm base = P.Emit (oneCode (C.ModRM 0 0xFF 4))
+linePlan L.ShortRel w imm base = P.Emit (twoCodes (C.Byte base) (C.RelByte 0 2))
+linePlan L.IntImm w imm base = P.Emit (twoCodes (C.Byte 0xCD) (C.UnsignedByte 0))
+linePlan L.XlatMem w imm base = P.Emit (oneCode (C.MemByte 0 0xD7))
+linePlan L.InAccImm w imm base = P.Emit (twoCodes (C.Byte (0xE4 + w)) (C.UnsignedByte 1))
+linePlan L.InAccDx w imm base = P.Emit (oneCode (C.Byte (0xEC + w)))
+linePlan L.OutImmAcc w imm base = P.Emit (twoCodes (C.Byte (0xE6 + w)) (C.UnsignedByte 0))
+linePlan L.OutDxAcc w imm base = P.Emit (oneCode (C.Byte (0xEE + w)))
+linePlan L.Aam w imm base = P.Emit (twoCodes (C.Byte 0xD4) (C.Byte 0x0A))
+linePlan L.Aad w imm base = P.Emit (twoCodes (C.Byte 0xD5) (C.Byte 0x0A))
+linePlan L.Ret w imm base = P.Emit (oneCode (C.Byte 0xC3))
+linePlan L.RetImm w imm base = P.Emit (twoCodes (C.Byte 0xC2) (C.UnsignedWord 0))
+linePlan L.Single w imm base = P.Emit (oneCode (C.Byte base))
+linePlan L.InvalidOperands w imm base = P.Refused W.InvalidOperands At.Operands
+linePlan L.InvalidFirst w imm base = P.Refused W.InvalidOperands At.First
+linePlan L.SizeNotSpecified w imm base = P.Refused W.OperandSizeNotSpecified At.Operands
+linePlan L.SizeNotSpecifiedFirst w imm base = P.Refused W.OperandSizeNotSpecified At.First
+linePlan L.SizesDoNotMatch w imm base = P.Refused W.OperandSizesDoNotMatch At.Operands
+linePlan L.InvalidSize w imm base = P.Refused W.InvalidOperandSize At.First
+linePlan L.TargetOutOfRange w imm base = P.Refused W.TargetOutOfRange At.First
+linePlan L.NotSupported w imm base = P.Refused W.NotSupported At.Operands
 
 abbrev pub decision : Line → DataSize → Decision
 decision l z = record { line = l; size = z }
@@ -107,4 +103,4 @@ abbrev pub plain : Line → Decision
 plain l = decision l Z.Word
 
 abbrev pub planned : Decision → ℕ → Plan
-planned d base = linePlan (d .line) (bit (d .size)) (immediate (d .size)) (stored (d .size)) base
+planned d base = linePlan (d .line) (bit (d .size)) (immediate (d .size)) base

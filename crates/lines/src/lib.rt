@@ -2,7 +2,7 @@
 ghost use mathlib.Core.Path.{_≡_};
 ghost use Prim.Native.Nat.{_+_, _*_, _%_, _≤_};
 ghost use Rattle.mrc_compiler.specs.declared.encoder.generate.Plan.the-variants as P;
-ghost use Rattle.lines.specs.Lines.{bit, immediate, stored, oneCode, twoCodes, linePlan, plain, planned};
+ghost use Rattle.lines.specs.Lines.{bit, immediate, oneCode, twoCodes, linePlan, plain, planned};
 use mrc_compiler::ast::DataSize;
 use mrc_compiler::encoder::generate::At;
 use mrc_compiler::encoder::generate::Code;
@@ -143,16 +143,6 @@ fn imm_code(size: DataSize) -> Code
     }
 }
 
-// The same into memory, where it may be negative.
-fn stored_code(size: DataSize) -> Code
-    ensures { λ r. ⌜ r ≡ stored size ⌝ }
-{
-    match size {
-        DataSize::Byte => Code::ImmSignedByte(FIRST_OPER_SRC),
-        DataSize::Word => Code::ImmSignedWord(FIRST_OPER_SRC),
-    }
-}
-
 // An opcode so many places behind a base; the sum wraps, as 000's does.
 fn opcode(base: u8, places: u8) -> u8
     ensures { λ r. ⌜ r ≡ (base + places) % 256 ⌝ }
@@ -189,10 +179,10 @@ fn two(first: Code, second: Code) -> Plan
     })
 }
 
-// The code list of a line, with the low bit of its opcode, the codes of its immediate and the base of its operation; or its refusal.
-fn line_plan(line: Line, w: u8, imm: Code, stored: Code, base: u8) -> Plan
+// The code list of a line, with the low bit of its opcode, the code of its immediate and the base of its operation; or its refusal.
+fn line_plan(line: Line, w: u8, imm: Code, base: u8) -> Plan
     requires { ⌜ w ≤ 1 ⌝ }
-    ensures { λ r. ⌜ r ≡ linePlan line w imm stored base ⌝ }
+    ensures { λ r. ⌜ r ≡ linePlan line w imm base ⌝ }
 {
     match line {
         Line::ArithRmReg => one(Code::ModRegRM(FIRST_OPER_DST, opcode(base, w))),
@@ -219,7 +209,7 @@ fn line_plan(line: Line, w: u8, imm: Code, stored: Code, base: u8) -> Plan
         Line::MovRmSreg => one(Code::ModRegRM(FIRST_OPER_DST, 0x8C)),
         Line::MovSregRm => one(Code::ModRegRM(FIRST_OPER_SRC, 0x8E)),
         Line::MovRegImm => two(Code::RegByte(FIRST_OPER_DST, 0xB0 + 8 * w), imm),
-        Line::MovRmImm => two(Code::ModRM(FIRST_OPER_DST, 0xC6 + w, 0), stored),
+        Line::MovRmImm => two(Code::ModRM(FIRST_OPER_DST, 0xC6 + w, 0), imm),
         Line::XchgAccReg => one(Code::RegByte(FIRST_OPER_SRC, 0x90)),
         Line::XchgRegAcc => one(Code::RegByte(FIRST_OPER_DST, 0x90)),
         Line::XchgRegRm => one(Code::ModRegRM(FIRST_OPER_SRC, 0x86 + w)),
@@ -245,16 +235,16 @@ fn line_plan(line: Line, w: u8, imm: Code, stored: Code, base: u8) -> Plan
         Line::JmpShort => two(Code::Byte(0xEB), Code::RelByte(FIRST_OPER_DST, 2)),
         Line::JmpRm => one(Code::ModRM(FIRST_OPER_DST, 0xFF, 4)),
         Line::ShortRel => two(Code::Byte(base), Code::RelByte(FIRST_OPER_DST, 2)),
-        Line::IntImm => two(Code::Byte(0xCD), Code::ImmByte(FIRST_OPER_DST)),
+        Line::IntImm => two(Code::Byte(0xCD), Code::UnsignedByte(FIRST_OPER_DST)),
         Line::XlatMem => one(Code::MemByte(FIRST_OPER_DST, 0xD7)),
-        Line::InAccImm => two(Code::Byte(0xE4 + w), Code::ImmByte(FIRST_OPER_SRC)),
+        Line::InAccImm => two(Code::Byte(0xE4 + w), Code::UnsignedByte(FIRST_OPER_SRC)),
         Line::InAccDx => one(Code::Byte(0xEC + w)),
-        Line::OutImmAcc => two(Code::Byte(0xE6 + w), Code::ImmByte(FIRST_OPER_DST)),
+        Line::OutImmAcc => two(Code::Byte(0xE6 + w), Code::UnsignedByte(FIRST_OPER_DST)),
         Line::OutDxAcc => one(Code::Byte(0xEE + w)),
         Line::Aam => two(Code::Byte(0xD4), Code::Byte(0x0A)),
         Line::Aad => two(Code::Byte(0xD5), Code::Byte(0x0A)),
         Line::Ret => one(Code::Byte(0xC3)),
-        Line::RetImm => two(Code::Byte(0xC2), Code::ImmWord(FIRST_OPER_DST)),
+        Line::RetImm => two(Code::Byte(0xC2), Code::UnsignedWord(FIRST_OPER_DST)),
         Line::Single => one(Code::Byte(base)),
         Line::InvalidOperands => Plan::Refused(Why::InvalidOperands, At::Operands),
         Line::InvalidFirst => Plan::Refused(Why::InvalidOperands, At::First),
@@ -273,11 +263,5 @@ pub fn plan_for(decision: Decision, base: u8) -> Plan
 {
     let line = decision.line;
     let size = decision.size;
-    line_plan(
-        line,
-        word_bit(size),
-        imm_code(size),
-        stored_code(size),
-        base,
-    )
+    line_plan(line, word_bit(size), imm_code(size), base)
 }

@@ -21,7 +21,7 @@ use Rattle.answers.specs.Operands.{counted}
 use Rattle.answers.specs.Meaning.{meant, meaning}
 use Rattle.groups.specs.Grouping.{groupedOf}
 use Rattle.listing.specs.Operands.{sameOperand, sameInstruction}
-use Rattle.listing.specs.Starts.{arithmeticImmediate, arithmetic, exchange, testImmediate, test, stack, ret, jump, single, startIn, startOf}
+use Rattle.listing.specs.Starts.{arithmeticImmediate, arithmetic, moveImmediate, move, exchange, testImmediate, test, stack, ret, jump, single, startIn, startOf}
 use Rattle.listing.specs.Candidates.{stringOf, candidate}
 use Rattle.listing.specs.Entries.{entry, spelled, key, isWhole, readsAs, insertBy, among, listing}
 
@@ -64,6 +64,13 @@ pub record Rows (off : ℕ) : Type 0 where
       ≡ (0x05 ∷ 0xFF ∷ 0xFF ∷ []) ∷ (0x83 ∷ 0xC0 ∷ 0xFF ∷ []) ∷ (0x81 ∷ 0xC0 ∷ 0xFF ∷ 0xFF ∷ []) ∷ []
   pub add-ax-65535 : listed off Op.ADD (registerOperand span 0 S.Word) (immediateOperand span (pos 65535))
       ≡ listed off Op.ADD (registerOperand span 0 S.Word) (immediateOperand span (negsuc 0))
+  -- No. 4: the same of MOV; P
+  pub mov-al-255 : listed off Op.MOV (registerOperand span 0 S.Byte) (immediateOperand span (pos 255)) ≡ (0xB0 ∷ 0xFF ∷ []) ∷ (0xC6 ∷ 0xC0 ∷ 0xFF ∷ []) ∷ []
+  pub mov-al-minus-1 : listed off Op.MOV (registerOperand span 0 S.Byte) (immediateOperand span (negsuc 0))
+      ≡ listed off Op.MOV (registerOperand span 0 S.Byte) (immediateOperand span (pos 255))
+  pub mov-ax-65535 : listed off Op.MOV (registerOperand span 0 S.Word) (immediateOperand span (pos 65535)) ≡ (0xB8 ∷ 0xFF ∷ 0xFF ∷ []) ∷ (0xC7 ∷ 0xC0 ∷ 0xFF ∷ 0xFF ∷ []) ∷ []
+  pub mov-ax-minus-1 : listed off Op.MOV (registerOperand span 0 S.Word) (immediateOperand span (negsuc 0))
+      ≡ listed off Op.MOV (registerOperand span 0 S.Word) (immediateOperand span (pos 65535))
   -- No. 1
   pub test-ax-bx : listed off Op.TEST (registerOperand span 0 S.Word) (registerOperand span 3 S.Word) ≡ (0x85 ∷ 0xD8 ∷ []) ∷ []
   pub test-bx-ax : listed off Op.TEST (registerOperand span 3 S.Word) (registerOperand span 0 S.Word) ≡ (0x85 ∷ 0xC3 ∷ []) ∷ []
@@ -81,7 +88,7 @@ pub record Rows (off : ℕ) : Type 0 where
       ≡ listed off Op.TEST (registerOperand span 1 S.Byte) (indirectOperand span 7 (pos 0) OD.None OG.None)
 
 pub rows : (off : ℕ) → Rows off
-unfolding forms canonical startingWith readForm prefix reads counted meant groupedOf sameOperand sameInstruction arithmeticImmediate arithmetic exchange testImmediate test stack ret jump single startIn startOf stringOf candidate entry spelled key isWhole readsAs insertBy among numberOf
+unfolding forms canonical startingWith readForm prefix reads counted meant groupedOf sameOperand sameInstruction arithmeticImmediate arithmetic moveImmediate move exchange testImmediate test stack ret jump single startIn startOf stringOf candidate entry spelled key isWhole readsAs insertBy among numberOf
 rows off = record {
   add-ax-5 = refl;
   add-word-bx-5 = refl;
@@ -90,6 +97,10 @@ rows off = record {
   add-bx-200 = refl;
   add-ax-minus-1 = refl;
   add-ax-65535 = refl;
+  mov-al-255 = refl;
+  mov-al-minus-1 = refl;
+  mov-ax-65535 = refl;
+  mov-ax-minus-1 = refl;
   test-ax-bx = refl;
   test-bx-ax = refl;
   test-al-5 = refl;

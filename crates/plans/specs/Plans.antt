@@ -14,55 +14,53 @@ use Rattle.mrc_compiler.specs.declared.encoder.generate.At.the-variants as At
 use Rattle.mrc_compiler.specs.Choose.{pick}
 use Rattle.x86.specs.Forms.{Slot, rm, rm-near, mem, mem-far, reg, sreg, sreg-not-cs, acc, low3, bits34, bits34-not-cs, CL, DX, one, moffs, xlat, ib, iw, ib-sx, cb, cw, ptr, nil, Extension, Form}
 use Rattle.x86.specs.Forms as F
-use Rattle.x86.specs.Reading.{Place, nowhere, by-modrm, by-address, by-bx-al, about, somewhere}
+use Rattle.x86.specs.Reading.{Place, nowhere, by-modrm, by-address, by-bx-al, about}
 use Rattle.answers.specs.Records.{dst, src}
 use Rattle.groups.specs.declared.Group.{Group}
 use Rattle.groups.specs.Grouping.{groupOf}
-use Rattle.answers.specs.Limits.{Kind, data-byte, data-word, memory-byte, memory-word, sign-extended, vector, port, popped, address, target, segment, byteKind, wordKind}
+use Rattle.answers.specs.Limits.{Kind, data-byte, data-word, sign-extended, vector, port, popped, address, target, segment, byteKind, wordKind}
 use Rattle.answers.specs.Choice.{Choice, none, straight, crossed, choice, formsOf}
 use Rattle.answers.specs.Questions.{Ask, groupAsks, isSupported}
 use Rattle.lines.specs.Lines.{oneCode, twoCodes}
 
 -- ---- a form's codes; i and j say which operands stand in its slots
--- the code of an immediate: MOV to memory takes negative ones too
+-- the code of an immediate
 abbrev pub immediateCode : Kind → ℕ → Code
 immediateCode data-byte k = C.ImmByte k
 immediateCode data-word k = C.ImmWord k
-immediateCode memory-byte k = C.ImmSignedByte k
-immediateCode memory-word k = C.ImmSignedWord k
 immediateCode sign-extended k = C.ImmSignExtended k
-immediateCode vector k = C.ImmByte k
-immediateCode port k = C.ImmByte k
-immediateCode popped k = C.ImmWord k
+immediateCode vector k = C.UnsignedByte k
+immediateCode port k = C.UnsignedByte k
+immediateCode popped k = C.UnsignedWord k
 immediateCode address k = C.DispWord k
 immediateCode target k = C.RelWord k
 immediateCode segment k = C.FarWords k
 
--- what follows the opcode and ModRM: f is the form's first slot
-abbrev pub tail : Group → Slot → Slot → ℕ → List Code
-tail g f (rm w) k = []
-tail g f rm-near k = []
-tail g f mem k = []
-tail g f mem-far k = []
-tail g f (reg w) k = []
-tail g f sreg k = []
-tail g f sreg-not-cs k = []
-tail g f (acc w) k = []
-tail g f (low3 w) k = []
-tail g f bits34 k = []
-tail g f bits34-not-cs k = []
-tail g f CL k = []
-tail g f DX k = []
-tail g f one k = []
-tail g f (moffs w) k = immediateCode address k ∷ []
-tail g f xlat k = []
-tail g f ib k = immediateCode (byteKind g (somewhere (about f .place))) k ∷ []
-tail g f iw k = immediateCode (wordKind g (somewhere (about f .place))) k ∷ []
-tail g f ib-sx k = immediateCode sign-extended k ∷ []
-tail g f cb k = C.RelByte k 2 ∷ []
-tail g f cw k = immediateCode target k ∷ []
-tail g f ptr k = immediateCode segment k ∷ []
-tail g f nil k = []
+-- what follows the opcode and ModRM
+abbrev pub tail : Group → Slot → ℕ → List Code
+tail g (rm w) k = []
+tail g rm-near k = []
+tail g mem k = []
+tail g mem-far k = []
+tail g (reg w) k = []
+tail g sreg k = []
+tail g sreg-not-cs k = []
+tail g (acc w) k = []
+tail g (low3 w) k = []
+tail g bits34 k = []
+tail g bits34-not-cs k = []
+tail g CL k = []
+tail g DX k = []
+tail g one k = []
+tail g (moffs w) k = immediateCode address k ∷ []
+tail g xlat k = []
+tail g ib k = immediateCode (byteKind g) k ∷ []
+tail g iw k = immediateCode (wordKind g) k ∷ []
+tail g ib-sx k = immediateCode sign-extended k ∷ []
+tail g cb k = C.RelByte k 2 ∷ []
+tail g cw k = immediateCode target k ∷ []
+tail g ptr k = immediateCode segment k ∷ []
+tail g nil k = []
 
 -- is the operand's register in the opcode?
 abbrev pub inLow3 : Slot → Bool
@@ -130,7 +128,7 @@ emitting c (d ∷ ds) = P.Emit (twoCodes c d)
 abbrev pub formPlan : Group → Form → ℕ → ℕ → Plan
 formPlan g f i j =
     emitting (head (f .extension) (f .opcode) (f .first) (f .second) i j)
-    (fixed (f .extension) ++ (tail g (f .first) (f .first) i ++ tail g (f .first) (f .second) j))
+    (fixed (f .extension) ++ (tail g (f .first) i ++ tail g (f .second) j))
 
 -- ---- a group's answer: the first of its questions that gets no, or the codes of the form chosen
 abbrev pub choicePlan : Group → Choice → Plan

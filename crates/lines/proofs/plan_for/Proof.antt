@@ -10,5 +10,4 @@ plan-for-spec =
     (λ c κs. search needs)
     (λ c κs. search needs)
     (λ c κs. search needs)
-    (λ c κs. search needs)
-    (λ c. c .line-plan .ensures ∙ rw (c .before .stored-code .ensures, c .before .before .imm-code .ensures, c .before .before .before .word-bit .ensures .0)))
+    (λ c. c .line-plan .ensures ∙ rw (c .before .imm-code .ensures, c .before .before .word-bit .ensures .0)))

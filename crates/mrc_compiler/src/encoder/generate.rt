@@ -7,7 +7,7 @@ pub enum Code {
     // Emits the given byte.
     Byte(u8),
 
-    // Emits an unsigned byte or word from the operand's imm.
+    // Emits a byte or word from the operand's imm, which may be negative.
     ImmByte(u8),
     ImmWord(u8),
 
@@ -33,9 +33,9 @@ pub enum Code {
     // Emits the operand's segment prefix and the opcode (MOV with a direct address, XLATB).
     MemByte(u8, u8),
 
-    // Emits a byte or word from the operand's imm, which may be negative (MOV to memory).
-    ImmSignedByte(u8),
-    ImmSignedWord(u8),
+    // Emits a byte or word from the operand's imm, which may not be negative (INT, IN and OUT; RET).
+    UnsignedByte(u8),
+    UnsignedWord(u8),
 
     // Emits the low byte of the operand's imm, which is -128 to 127: the processor sign-extends it to a word (83).
     ImmSignExtended(u8),
