@@ -325,7 +325,6 @@ fn with_opcode(opcode: u8, immediate: &[u8]) -> Answer {
     answers::bytes(&[&[opcode], immediate].concat())
 }
 
-
 fn adjust(r: &Record) -> u8 {
     if r.operation == op::AAM { 0xD4 } else { 0xD5 }
 }
