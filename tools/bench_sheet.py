@@ -1,14 +1,14 @@
 #!/usr/bin/env python3
-"""bench_sheet.py > crates/vectors/data/bench_sheet.txt
-bench_sheet.py lists > crates/vectors/data/lists.txt
-bench_sheet.py sample < SAMPLE > crates/vectors/data/sample.txt     (needs nasm 2.16)
+"""bench_sheet.py > crates/test_vectors/data/bench_sheet.txt
+bench_sheet.py lists > crates/test_vectors/data/lists.txt
+bench_sheet.py sample < SAMPLE > crates/test_vectors/data/sample.txt     (needs nasm 2.16)
 
-Writes the rows that the program `vectors` runs. For the encoder: the bench sheet's rows, the example of 'Show file', and the sentences of
+Writes the rows that the program `test_vectors` runs. For the encoder: the bench sheet's rows, the example of 'Show file', and the sentences of
 document 01 and of document 02, Nos. 1, 2 and 4, that give a record's bytes or refusal; the expected values are those documents' and the SDM's, and a row's name tells
 the sentence. For the lister: the bench sheet's lists, marked 01, lists that those tell of, marked 02, and lists put together by hand from the SDM's opcode tables.
 
-The sample is the Rust's answers as differential/run writes them. Where a request of document 02 answers otherwise, the row gets the request's refusal or NASM's bytes, and
-says so in its name: No. 1 where the Rust panics at `todo!`, for which 7 stands there; Nos. 2 and 4 where it refuses a data immediate with 5. All other rows pass through unchanged."""
+The sample is the Rust's answers as tests/differential/run writes them. Where a request of document 02 answers otherwise, the row gets the request's refusal or NASM's bytes, and
+says so: No. 1 where the Rust panics at `todo!`, for which 7 stands there; Nos. 2 and 4 where it refuses a data immediate with 5. All other rows pass through unchanged."""
 import pathlib
 import struct
 import subprocess
@@ -58,11 +58,45 @@ def record(operation, operands, count=None):
     return head + one(first, FIRST) + one(second, SECOND)
 
 
+# Where the rows that follow come from.
+SOURCE = ''
+
+
+def source(name):
+    global SOURCE
+    SOURCE = name
+
+
+def printed(columns):
+    print(' '.join(text.ljust(width) for text, width in columns))
+
+
+# The columns, as the program has them.
+HEAD = 62, 24, 4, 2
+BYTES, FIELDS, COUNT, ENTRY, RECORD = 21, 8, 2, 24, 112
+
+
+ANSWER = [('bytes', BYTES), *((text, FIELDS) for text in ('length', 'span', '', 'value', 'low', 'high')), ('record', RECORD)]
+
+
+def heading(*rest):
+    printed([*zip(('instruction', 'from', 'at', 'no'), HEAD), *rest])
+
+
+def head(name, packed, offset, number):
+    """A name may say the document itself."""
+    mark, _, rest = name.rpartition(': ')
+    assert len(packed) == 56 and len(rest) <= HEAD[0] and len(SOURCE) <= HEAD[1], name
+    return [*zip((rest, f'document {mark}' if mark else SOURCE, f'{offset:04X}', f'{number:02X}'), HEAD)]
+
+
+def spaced(string):
+    return string.hex(' ').upper()
+
+
 def row(name, packed, offset, number, length=0, span=(0, 0), values=(0, 0, 0), written=b''):
     fields = (length, *span, *(v % 2**32 for v in values))
-    line = ' '.join([packed.hex().upper(), f'{offset:04X}', f'{number:02X}', *(f'{n:08X}' for n in fields), written.ljust(7, b'\0').hex().upper(), name])
-    assert len(packed) == 56 and len(line) < 224, name
-    print(line.ljust(223))
+    printed([*head(name, packed, offset, number), (spaced(written), BYTES), *((f'{n:08X}', FIELDS) for n in fields), (packed.hex().upper(), RECORD)])
 
 
 def gives(name, operation, operands, text, offset=0, **more):
@@ -73,13 +107,12 @@ def gives(name, operation, operands, text, offset=0, **more):
 def refused(name, operation, operands, number, span, values=(0, 0, 0), offset=0, **more):
     row(name, record(operation, operands, **more), offset, number, span=span, values=values)
 
+
 def list_row(name, packed, offset, number, strings):
     strings = sorted(strings, key=lambda t: (len(t), t))
-    assert len(packed) == 56 and len(strings) <= 12 and len(set(strings)) == len(strings), name
-    entries = b''.join(bytes([len(t)]) + t.ljust(7, b'\0') for t in strings).ljust(96, b'\0')
-    line = ' '.join([packed.hex().upper(), f'{offset:04X}', f'{number:02X}', f'{len(strings):02X}', entries.hex().upper(), name])
-    assert len(line) < 352, name
-    print(line.ljust(351))
+    assert len(strings) <= 12 and len(set(strings)) == len(strings), name
+    entries = [f'{len(t):02X} {spaced(t)}' for t in strings] + [''] * (12 - len(strings))
+    printed([*head(name, packed, offset, number), (f'{len(strings):02X}', COUNT), (' '.join(e.ljust(ENTRY - 1) for e in entries), 12 * ENTRY - 1), (packed.hex().upper(), RECORD)])
 
 
 def lists(name, operation, operands, *texts, offset=0):
@@ -108,13 +141,14 @@ def lists_memory(name, operation, operands, *texts, prefix=0):
 
 
 def the_lists():
-    # 'Bench sheet' and the P rows
-    lists('01: ADD AX,5', 'ADD', [AX, imm(5)], '05 05 00', '83 C0 05', '81 C0 05 00')
-    lists('01: Word ADD [BX],5, twelve', 'ADD', [AT_BX(WORD), imm(5)], '83 07 05', '3E 83 07 05', '83 47 00 05', '3E 83 47 00 05', '83 87 00 00 05', '3E 83 87 00 00 05',
+    heading(('n', COUNT), ('entries: length and bytes', 12 * ENTRY - 1), ('record', RECORD))
+    source('01, Bench sheet')
+    lists('ADD AX,5', 'ADD', [AX, imm(5)], '05 05 00', '83 C0 05', '81 C0 05 00')
+    lists('Word ADD [BX],5, twelve', 'ADD', [AT_BX(WORD), imm(5)], '83 07 05', '3E 83 07 05', '83 47 00 05', '3E 83 47 00 05', '83 87 00 00 05', '3E 83 87 00 00 05',
           '81 07 05 00', '3E 81 07 05 00', '81 47 00 05 00', '3E 81 47 00 05 00', '81 87 00 00 05 00', '3E 81 87 00 00 05 00')
-    lists('01: XCHG CX,CX', 'XCHG', [CX, CX], '87 C9')
+    lists('XCHG CX,CX', 'XCHG', [CX, CX], '87 C9')
 
-    # by hand, from the SDM's opcode tables
+    source('SDM, opcode tables')
     lists('ADD AX,200', 'ADD', [AX, imm(200)], '05 C8 00', '81 C0 C8 00')
     lists('02: ADD AX,-1', 'ADD', [AX, imm(-1)], '05 FF FF', '83 C0 FF', '81 C0 FF FF')
     lists('02: ADD AX,65535, the same', 'ADD', [AX, imm(65535)], '05 FF FF', '83 C0 FF', '81 C0 FF FF')
@@ -210,20 +244,21 @@ def the_lists():
     lists('CLC', 'CLC', [], 'F8')
     lists('REP', 'REP', [], 'F3')
 
-    # refused as the encoder refuses
-    list_row('01: MOV byte [BX],300 is 5', record('MOV', [AT_BX(BYTE), imm(300)]), 0, 5, [])
-    list_row('01: count 3 is 8', record('AAM', [], 3), 0, 8, [])
+    source('01, Lists')
+    list_row('MOV byte [BX],300 is 5', record('MOV', [AT_BX(BYTE), imm(300)]), 0, 5, [])
+    list_row('count 3 is 8', record('AAM', [], 3), 0, 8, [])
     list_row('02: INT1 is 7', record('INT1', []), 0, 7, [])
-    list_row('02: JMP at 65534 to 0, Short, 6', record('JMP', [imm(0, SHORT)]), 65534, 6, [])
+    list_row('02: JMP at 65534 to 0, Short, is 6', record('JMP', [imm(0, SHORT)]), 65534, 6, [])
 
 
 def the_bench_sheet():
-    # 'Bench sheet'
+    heading(*ANSWER)
+    source('01, Bench sheet')
     gives('MOV AX,4660', 'MOV', [AX, imm(4660)], 'B8 34 12')
     gives('AAM', 'AAM', [], 'D4 0A')
     gives('TEST AL,5', 'TEST', [AL, imm(5)], 'A8 05')
     gives('ADD AX,5', 'ADD', [AX, imm(5)], '83 C0 05')
-    gives('ADD AX,-1, by No. 2', 'ADD', [AX, imm(-1)], '83 C0 FF')
+    gives('02: ADD AX,-1', 'ADD', [AX, imm(-1)], '83 C0 FF')
     gives('ADD BX,200', 'ADD', [BX, imm(200)], '81 C3 C8 00')
     gives('Word ADD [BX],5', 'ADD', [AT_BX(WORD), imm(5)], '83 07 05')
     gives('XCHG CL,AL', 'XCHG', [CL, AL], '86 C8')
@@ -239,12 +274,12 @@ def the_bench_sheet():
     gives('MOV byte [BX],255', 'MOV', [AT_BX(BYTE), imm(255)], 'C6 07 FF')
     refused('MOV byte [BX],300', 'MOV', [AT_BX(BYTE), imm(300)], 5, SECOND, (300, -128, 255))
 
-    # 'Show file', its example
+    source('01, Show file')
     gives('MOV AX,4660 at 256', 'MOV', [AX, imm(4660)], 'B8 34 12', 256)
     gives('AAM at 259', 'AAM', [], 'D4 0A', 259)
     gives('LOOP at 261 to 256', 'LOOP', [imm(256)], 'E2 F9', 261)
 
-    # 'docs/DIFFERENCES.md starts with'
+    source('01, DIFFERENCES')
     gives('AAD', 'AAD', [], 'D5 0A')
     gives('TEST AL,5 by the second', 'TEST', [operand(REG, BYTE, 0, 3, imm=9), imm(5)], 'A8 05')
     refused('TEST AL,256 by the second', 'TEST', [AL, imm(256)], 5, SECOND, (256, -128, 255))
@@ -265,7 +300,7 @@ def the_bench_sheet():
     refused('IN with no size', 'IN', [reg(ANY, 0), imm(5)], 1, INSTRUCTION)
     refused('OUT DL,AL', 'OUT', [reg(BYTE, 2), AL], 1, INSTRUCTION)
 
-    # 'Code list' and 'Operand'
+    source('01, Code list, Operand')
     gives('ADD AX,127', 'ADD', [AX, imm(127)], '83 C0 7F')
     gives('ADD AX,128', 'ADD', [AX, imm(128)], '05 80 00')
     gives('CMP AL,200', 'CMP', [AL, imm(200)], '3C C8')
@@ -284,7 +319,7 @@ def the_bench_sheet():
     gives('SAR byte [BX],CL', 'SAR', [AT_BX(BYTE), CL], 'D2 3F')
     gives('IN AX,DX', 'IN', [AX, DX], 'ED')
 
-    # 'Questions at the gate'
+    source('01, Questions')
     refused('count 3', 'AAM', [], 8, INSTRUCTION, count=3)
     refused('first operand, mode 2', 'AAM', [operand(REG, WORD, 0, 2)], 8, FIRST)
     refused('second operand, prefix 1', 'AAM', [AX, operand(IMM, prefix=1)], 8, SECOND)
@@ -296,9 +331,9 @@ def the_bench_sheet():
     refused('POP 5', 'POP', [operand(IMM, WORD, imm=5)], 4, FIRST)
     refused('JMP 65536, Short', 'JMP', [imm(65536, SHORT)], 5, FIRST, (65536, 0, 65535))
 
-    # document 02, No. 1: TEST
+    source('02, No. 1')
     BL = reg(BYTE, 3)
-    gives('TEST AX,BX: second in reg', 'TEST', [AX, BX], '85 D8')
+    gives('TEST AX,BX, the second in reg', 'TEST', [AX, BX], '85 D8')
     gives('TEST BX,AX', 'TEST', [BX, AX], '85 C3')
     gives('TEST CL,AL', 'TEST', [CL, AL], '84 C1')
     gives('TEST [BX],CL', 'TEST', [AT_BX(BYTE), CL], '84 0F')
@@ -315,7 +350,7 @@ def the_bench_sheet():
     gives('TEST byte [BX],255', 'TEST', [AT_BX(BYTE), imm(255)], 'F6 07 FF')
     gives('TEST word [BX],65535', 'TEST', [AT_BX(WORD), imm(65535)], 'F7 07 FF FF')
     gives('TEST word CS:[4660],22136', 'TEST', [mem(WORD, 0, 6, 4660, 0x2E), imm(22136)], '2E F7 06 34 12 78 56')
-    # its limits are No. 4's
+    source('02, No. 4')
     refused('TEST BL,300', 'TEST', [BL, imm(300)], 5, SECOND, (300, -128, 255))
     gives('TEST BL,-1', 'TEST', [BL, imm(-1)], 'F6 C3 FF')
     gives('TEST byte [BX],-1', 'TEST', [AT_BX(BYTE), imm(-1)], 'F6 07 FF')
@@ -333,6 +368,7 @@ def the_bench_sheet():
     refused('TEST AX,DS', 'TEST', [AX, seg(3)], 1, INSTRUCTION)
 
     # PUSH and POP of memory: of a stated Word
+    source('02, No. 1')
     gives('PUSH AX', 'PUSH', [AX], '50')
     gives('PUSH word [BX]', 'PUSH', [AT_BX(WORD)], 'FF 37')
     gives('PUSH word ES:[BP+200]', 'PUSH', [mem(WORD, 2, 6, 200, 0x26)], '26 FF B6 C8 00')
@@ -387,12 +423,15 @@ def the_bench_sheet():
     gives('WAIT', 'WAIT', [], '9B')
     gives('WAIT 5', 'WAIT', [imm(5)], '9B')
 
-    # document 02, No. 2: the SDM's 83 /0 to /7
+    # the SDM's 83 /0 to /7
+    source('02, No. 2')
     for operation, register, memory in (('ADD', 'C3', '07'), ('OR', 'CB', '0F'), ('ADC', 'D3', '17'), ('SBB', 'DB', '1F'), ('AND', 'E3', '27'),
                                         ('SUB', 'EB', '2F'), ('XOR', 'F3', '37'), ('CMP', 'FB', '3F')):
+        source('02, No. 2')
         gives(f'{operation} BX,-1', operation, [BX, imm(-1)], f'83 {register} FF')
         gives(f'{operation} BX,-128', operation, [BX, imm(-128)], f'83 {register} 80')
-        # 81 and 80, by No. 4
+        # 81 and 80
+        source('02, No. 4')
         gives(f'{operation} BX,-129', operation, [BX, imm(-129)], f'81 {register} 7F FF')
         gives(f'{operation} word [BX],-1', operation, [AT_BX(WORD), imm(-1)], f'83 {memory} FF')
         gives(f'{operation} word [BX],-129', operation, [AT_BX(WORD), imm(-129)], f'81 {memory} 7F FF')
@@ -400,6 +439,7 @@ def the_bench_sheet():
         gives(f'{operation} byte [BX],-1', operation, [AT_BX(BYTE), imm(-1)], f'80 {memory} FF')
         refused(f'{operation} BL,-129', operation, [reg(BYTE, 3), imm(-129)], 5, SECOND, (-129, -128, 255))
         refused(f'{operation} BX,70000', operation, [BX, imm(70000)], 5, SECOND, (70000, -32768, 65535))
+    source('02, No. 2')
     gives('ADD AX,-128', 'ADD', [AX, imm(-128)], '83 C0 80')
     gives('ADD AX,-129', 'ADD', [AX, imm(-129)], '05 7F FF')
     gives('ADD AX,65535 is not 83', 'ADD', [AX, imm(65535)], '05 FF FF')
@@ -408,7 +448,8 @@ def the_bench_sheet():
     gives('ADD word CS:[BP+SI-2],-3', 'ADD', [mem(WORD, 1, 2, -2, 0x2E), imm(-3)], '2E 83 42 FE FD')
     refused('ADD AX,65536', 'ADD', [AX, imm(65536)], 5, SECOND, (65536, -32768, 65535))
 
-    # document 02, No. 4: one range for data immediates
+    # one range for data immediates
+    source('02, No. 4')
     gives('MOV AL,-1', 'MOV', [AL, imm(-1)], 'B0 FF')
     gives('MOV AL,-128', 'MOV', [AL, imm(-128)], 'B0 80')
     refused('MOV AL,-129', 'MOV', [AL, imm(-129)], 5, SECOND, (-129, -128, 255))
@@ -458,6 +499,25 @@ def text_of(o, size):
     return str(value)
 
 
+def words(operation, count, operands):
+    """A record in words, also one that NASM does not take: r3 is a register of no stated size. The encoder looks at operands that the count leaves out."""
+    def one(o):
+        kind, size, prefix, disp_size, jump, mode, rm, value, disp = o
+        along = {NONE: '', FAR: 'far ', NEAR: 'near ', SHORT: 'short '}[jump]
+        if kind == REG:
+            return along + (NAMES[size][rm].upper() if size else f'r{rm}')
+        if kind == SEG:
+            return along + 'ES CS SS DS'.split()[rm]
+        if kind == MEM:
+            base = [] if (mode, rm) == (0, 6) else [BASES[rm].upper()]
+            shown = [str(disp)] if (mode, rm) == (0, 6) else [f'{disp:+}'] if disp_size else []
+            segment = PREFIXES[prefix].strip().upper()
+            return f'{along}{SIZES[size]}{segment}{":" if segment else ""}[{"".join(base + shown)}]'
+        return along + (f'{disp}:' if jump == FAR else '') + SIZES[size] + str(value)
+    used = max(count, *(i + 1 if any(o) else 0 for i, o in enumerate(operands)))
+    return f'{operation} {",".join(map(one, operands[:used]))}'.strip() + (f', count {count}' if count != used else '')
+
+
 def assembled(text, offset):
     with tempfile.TemporaryDirectory() as folder:
         source, out = pathlib.Path(folder, 'a.asm'), pathlib.Path(folder, 'a.bin')
@@ -496,23 +556,28 @@ def by_request(operation, offset, spans, first, second):
 
 
 def the_sample():
+    heading(*ANSWER)
     for line in sys.stdin.read().splitlines():
-        packed, offset, number = line.split()[:3]
-        packed, offset = bytes.fromhex(packed), int(offset, 16)
+        packed, offset, number, *fields, written = line.split()
+        packed, offset, number = bytes.fromhex(packed), int(offset, 16), int(number, 16)
         operation = OPERATIONS[packed[0]]
         *first, a, b = struct.unpack_from('<BBBBBBBiiII', packed, 10)
         *second, c, d = struct.unpack_from('<BBBBBBBiiII', packed, 33)
         spans = struct.unpack_from('<II', packed, 2), (a, b), (c, d)
-        if number == '07' and operation not in ('INT1', 'ESC'):
+        name = words(operation, packed[1], [first, second])
+        if number == 7 and operation not in ('INT1', 'ESC'):
             request = 1
-        elif number == '05' and operation in EIGHT and WORD in (first[1], second[1]) and -128 <= second[7] < 0:
+        elif number == 5 and operation in EIGHT and WORD in (first[1], second[1]) and -128 <= second[7] < 0:
             request = 2
-        elif number == '05' and second[0] == IMM and (operation in EIGHT or operation == 'MOV' and first[0] == REG):
+        elif number == 5 and second[0] == IMM and (operation in EIGHT or operation == 'MOV' and first[0] == REG):
             request = 4
         else:
-            print(line)
+            source('the Rust')
+            length, *span, value, low, high = (int(n, 16) for n in fields)
+            row(name, packed, offset, number, length, span, (value, low, high), bytes.fromhex(written)[:length])
             continue
-        row(f'{operation}, document 02, No. {request}', packed, offset, **by_request(operation, offset, spans, first, second))
+        source(f'02, No. {request}')
+        row(name, packed, offset, **by_request(operation, offset, spans, first, second))
 
 
 {'lists': the_lists, 'sample': the_sample}.get(''.join(sys.argv[1:]), the_bench_sheet)()

@@ -2,11 +2,13 @@
 //! `build` wraps this file and the Rust's sources into one crate; see README.md.
 
 #[allow(dead_code, unused_imports)]
-#[path = "../../differential/src/answers.rs"]
+#[path = "../../tests/differential/src/answers.rs"]
 mod answers;
 #[allow(dead_code, unused_imports)]
-#[path = "../../differential/src/records.rs"]
+#[path = "../../tests/differential/src/records.rs"]
 mod records;
+#[path = "../../library/rust/src/bindings.rs"]
+mod bindings;
 
 mod clock;
 mod groups;

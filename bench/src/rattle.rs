@@ -1,11 +1,6 @@
 //! Our library behind its C functions.
 
-extern "C" {
-    fn fsq_encode(record: *const u8, record_len: usize, offset: u16, out: *mut u8, out_len: usize, report: *mut u8, report_len: usize) -> u8;
-    fn fsq_list(record: *const u8, record_len: usize, offset: u16, out: *mut u8, out_len: usize, report: *mut u8, report_len: usize) -> u8;
-    fn fsq_read(bytes: *const u8, bytes_len: usize, offset: u16, out: *mut u8, out_len: usize) -> u8;
-    fn fsq_load(file: *const u8, file_len: usize, image: *mut u8, image_len: usize, report: *mut u8, report_len: usize) -> u8;
-}
+use super::bindings::{fsq_encode, fsq_list, fsq_load, fsq_read};
 
 pub type Report = [u8; 28];
 

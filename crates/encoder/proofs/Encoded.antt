@@ -13,9 +13,9 @@ use Rattle.mrc_compiler.specs.declared.encoder.EncodeError.the-variants as E
 use Rattle.mrc_compiler.specs.declared.encoder.Encoded.the-variants as N
 use Rattle.mrc_compiler.specs.declared.encoder.InstructionData.{InstructionData}
 use Rattle.mrc_compiler.specs.Choose.{pick}
-use Rattle.answers.specs.Meaning.{meaning}
-use Rattle.answers.specs.Answer.{Answer, bytes, refused, answer, outcome, sliceAfter}
-use Rattle.answers.proofs.Accepted.{Reads, accepted-reads}
+use Rattle.encode_spec.specs.Meaning.{meaning}
+use Rattle.encode_spec.specs.Answer.{Answer, bytes, refused, answer, outcome, sliceAfter}
+use Rattle.encode_spec.proofs.Accepted.{Reads, accepted-reads}
 
 front : (bs s : List ℕ) → take (length bs) (bs ++ s) ≡ bs
 front [] s = refl

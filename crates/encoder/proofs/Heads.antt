@@ -13,12 +13,12 @@ use Rattle.mrc_compiler.specs.Choose.{pick}
 use Rattle.x86.specs.Forms.{Slot, Extension}
 use Rattle.x86.specs.Reading.{about}
 use Rattle.x86.proofs.Unambiguous.{digitOk}
-use Rattle.answers.specs.Layout.{prefixBytes, displacementBytes, Part, second}
-use Rattle.answers.specs.Answer.{bytes}
-use Rattle.answers.proofs.Slots.{Field, placeOf, laid, Bounded}
-use Rattle.answers.proofs.Arrangements.{Arranged, bare, adjust, branch, address-first, address-second, bx-al, rm-digit, rm-reg, reg-rm, low3-first, low3-second, segment}
-use Rattle.plans.specs.Plans.{head, fixed, inLow3}
-use Rattle.fields.specs.Fields.{operand, other, codeAnswer, modRmByte, modRegRm}
+use Rattle.encode_spec.specs.Layout.{prefixBytes, displacementBytes, Part, second}
+use Rattle.encode_spec.specs.Answer.{bytes}
+use Rattle.encode_spec.proofs.Slots.{Field, placeOf, laid, Bounded}
+use Rattle.encode_spec.proofs.Arrangements.{Arranged, bare, adjust, branch, address-first, address-second, bx-al, rm-digit, rm-reg, reg-rm, low3-first, low3-second, segment}
+use Rattle.encode_plans.specs.Plans.{head, fixed, inLow3}
+use Rattle.encode_fields.specs.Fields.{operand, other, codeAnswer, modRmByte, modRegRm}
 use Rattle.encoder.proofs.Joins.{listed}
 use Rattle.encoder.proofs.Tails.{behind, codes, isLow3}
 

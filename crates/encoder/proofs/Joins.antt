@@ -11,11 +11,11 @@ use Rattle.mrc_compiler.specs.declared.encoder.generate.Code.{Code}
 use Rattle.mrc_compiler.specs.declared.encoder.generate.Plan.{Plan}
 use Rattle.mrc_compiler.specs.declared.encoder.generate.Plan.the-variants as P
 use Rattle.mrc_compiler.specs.Choose.{pick}
-use Rattle.answers.specs.Limits.{Asked, asked}
-use Rattle.answers.specs.Questions.{Ask, withSpan, errorOf}
-use Rattle.answers.specs.Answer.{First, all-yes, no, firstNo, Answer, bytes, refused, answered}
-use Rattle.plans.specs.Plans.{emitting, refusing}
-use Rattle.fields.specs.Fields.{joined, codeAnswer}
+use Rattle.encode_spec.specs.Limits.{Asked, asked}
+use Rattle.encode_spec.specs.Questions.{Ask, withSpan, errorOf}
+use Rattle.encode_spec.specs.Answer.{First, all-yes, no, firstNo, Answer, bytes, refused, answered}
+use Rattle.encode_plans.specs.Plans.{emitting, refusing}
+use Rattle.encode_fields.specs.Fields.{joined, codeAnswer}
 use Rattle.encoder.specs.Coded.{planAnswer}
 
 -- ---- two answers

@@ -17,16 +17,16 @@ use Rattle.mrc_compiler.specs.declared.encoder.EncodeError.the-variants as E
 use Rattle.mrc_compiler.specs.declared.encoder.Encoded.the-variants as N
 use Rattle.mrc_compiler.specs.declared.encoder.InstructionData.{InstructionData}
 use Rattle.mrc_compiler.specs.Choose.{pick}
-use Rattle.answers.specs.Records.{dst, src}
-use Rattle.answers.specs.WellFormed.{wellFormed}
-use Rattle.answers.specs.Answer.{Answer, bytes, refused, answer, outcome, sliceAfter}
-use Rattle.answers.proofs.Accepted.{accepted-reads}
-use Rattle.plans.specs.Plans.{planOf}
-use Rattle.emitter.specs.declared.ByteRun.{ByteRun}
-use Rattle.fields.specs.declared.Refusal.the-variants as R
-use Rattle.emit.specs.declared.Emitted.{Emitted}
-use Rattle.emitter.specs.Run.{emptyRun, pushed, appended}
-use Rattle.emit.specs.Emit.{emitted}
+use Rattle.encode_spec.specs.Records.{dst, src}
+use Rattle.encode_spec.specs.WellFormed.{wellFormed}
+use Rattle.encode_spec.specs.Answer.{Answer, bytes, refused, answer, outcome, sliceAfter}
+use Rattle.encode_spec.proofs.Accepted.{accepted-reads}
+use Rattle.encode_plans.specs.Plans.{planOf}
+use Rattle.encode_run.specs.declared.ByteRun.{ByteRun}
+use Rattle.encode_fields.specs.declared.Refusal.the-variants as R
+use Rattle.encode_codes.specs.declared.Emitted.{Emitted}
+use Rattle.encode_run.specs.Run.{emptyRun, pushed, appended}
+use Rattle.encode_codes.specs.Emit.{emitted}
 use Rattle.encoder.specs.Coded.{planAnswer, coded}
 use Rattle.encoder.specs.Lengths.{lengthOf}
 use Rattle.encoder.proofs.Tied.{tied}

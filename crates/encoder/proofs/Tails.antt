@@ -14,21 +14,21 @@ use Rattle.mrc_compiler.specs.declared.encoder.OperandData.{OperandData}
 use Rattle.mrc_compiler.specs.declared.encoder.OperandSize.{OperandSize}
 use Rattle.mrc_compiler.specs.declared.encoder.generate.Code.the-variants as C
 use Rattle.mrc_compiler.specs.Choose.{pick}
-use Rattle.values.specs.Distances.{distanceOf}
+use Rattle.base_values.specs.Distances.{distanceOf}
 use Rattle.x86.specs.Forms.{Slot, rm, rm-near, mem, mem-far, reg, sreg, sreg-not-cs, acc, low3, bits34, bits34-not-cs, CL, DX, one, moffs, xlat, ib, iw, ib-sx, cb, cw, ptr, nil}
 use Rattle.x86.specs.Reading.{Place, nowhere, by-modrm, about}
 use Rattle.x86.specs.Reading as R
 use Rattle.x86.proofs.Tests.{is-true}
-use Rattle.answers.specs.WellFormed.{wellFormed}
-use Rattle.groups.specs.declared.Group.{Group}
-use Rattle.answers.specs.Choice.{takes}
-use Rattle.answers.specs.Layout.{byteOf, wordOf, part}
-use Rattle.answers.specs.Limits.{Kind, data-byte, data-word, sign-extended, vector, port, popped, address, target, segment, limits, byteKind, wordKind, inLimits, shortDistance, ofSlot}
-use Rattle.answers.specs.Answer.{firstNo, Answer, answered, bytes}
-use Rattle.answers.proofs.Operands.{imm-taken, mem-taken, mem-in-rm, taken-in-rm, taken-reg, taken-seg, taken-mem}
-use Rattle.answers.proofs.Slots.{Field, in-rm, in-reg, in-low3, in-bits34, by-address, by-bx-al, distance, elsewhere, field, placeOf, Bounded}
-use Rattle.plans.specs.Plans.{immediateCode, tail, inLow3}
-use Rattle.fields.specs.Fields.{ranged, operand, codeAnswer, joined, immediateByte, immediateWord, relativeByte, relativeWord}
+use Rattle.encode_spec.specs.WellFormed.{wellFormed}
+use Rattle.encode_groups.specs.declared.Group.{Group}
+use Rattle.encode_spec.specs.Choice.{takes}
+use Rattle.encode_spec.specs.Layout.{byteOf, wordOf, part}
+use Rattle.encode_spec.specs.Limits.{Kind, data-byte, data-word, sign-extended, vector, port, popped, address, target, segment, limits, byteKind, wordKind, inLimits, shortDistance, ofSlot}
+use Rattle.encode_spec.specs.Answer.{firstNo, Answer, answered, bytes}
+use Rattle.encode_spec.proofs.Operands.{imm-taken, mem-taken, mem-in-rm, taken-in-rm, taken-reg, taken-seg, taken-mem}
+use Rattle.encode_spec.proofs.Slots.{Field, in-rm, in-reg, in-low3, in-bits34, by-address, by-bx-al, distance, elsewhere, field, placeOf, Bounded}
+use Rattle.encode_plans.specs.Plans.{immediateCode, tail, inLow3}
+use Rattle.encode_fields.specs.Fields.{ranged, operand, codeAnswer, joined, immediateByte, immediateWord, relativeByte, relativeWord}
 use Rattle.encoder.proofs.Joins.{joined-nil, first-asked, asked-joined, listed}
 
 -- ---- what the codes of a slot go by: how it names memory, and the immediate bytes that it takes

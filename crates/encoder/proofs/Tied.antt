@@ -22,23 +22,23 @@ use Rattle.x86.specs.Forms.{Form, forms}
 use Rattle.x86.specs.Reading.{keep, about}
 use Rattle.x86.proofs.Tests.{both-parts, eachOf, each-at, kept}
 use Rattle.x86.proofs.Unambiguous.{digitOk, all-bytes}
-use Rattle.answers.specs.Records.{dst, src}
-use Rattle.answers.specs.WellFormed.{wellFormed}
-use Rattle.groups.specs.declared.Group.{Group}
-use Rattle.groups.specs.Grouping.{groupedOf, groupOf}
-use Rattle.answers.specs.Rules.{rule}
-use Rattle.answers.specs.Choice.{Choice, none, straight, crossed, takes, sizeIn, choose, countBy, eitherWay, formsOf}
-use Rattle.answers.specs.Layout.{Part, part, layout}
-use Rattle.answers.specs.Limits.{Asked, asked, ofSlot, ofForm}
-use Rattle.answers.specs.Questions.{Ask, ask, sizeStated, sizesAgree, targetAsked, formFound, groupAsks, withSpan, isSupported, formAsked, chosen, questions}
-use Rattle.answers.specs.Answer.{firstNo, written, Answer, bytes, refused, answered, answer}
-use Rattle.answers.proofs.Values.{both-true}
-use Rattle.answers.proofs.Slots.{Field, field, placeOf, laid, ByField, by-field}
-use Rattle.answers.proofs.ReadBack.{ArrangedForm}
-use Rattle.answers.proofs.Meanings.{all-at}
-use Rattle.answers.proofs.Operations.{by-operation}
-use Rattle.plans.specs.Plans.{tail, head, fixed, formPlan, choicePlan, refusing, planOf}
-use Rattle.fields.specs.Fields.{joined, operand, other}
+use Rattle.encode_spec.specs.Records.{dst, src}
+use Rattle.encode_spec.specs.WellFormed.{wellFormed}
+use Rattle.encode_groups.specs.declared.Group.{Group}
+use Rattle.encode_groups.specs.Grouping.{groupedOf, groupOf}
+use Rattle.encode_spec.specs.Rules.{rule}
+use Rattle.encode_spec.specs.Choice.{Choice, none, straight, crossed, takes, sizeIn, choose, countBy, eitherWay, formsOf}
+use Rattle.encode_spec.specs.Layout.{Part, part, layout}
+use Rattle.encode_spec.specs.Limits.{Asked, asked, ofSlot, ofForm}
+use Rattle.encode_spec.specs.Questions.{Ask, ask, sizeStated, sizesAgree, targetAsked, formFound, groupAsks, withSpan, isSupported, formAsked, chosen, questions}
+use Rattle.encode_spec.specs.Answer.{firstNo, written, Answer, bytes, refused, answered, answer}
+use Rattle.encode_spec.proofs.Values.{both-true}
+use Rattle.encode_spec.proofs.Slots.{Field, field, placeOf, laid, ByField, by-field}
+use Rattle.encode_spec.proofs.ReadBack.{ArrangedForm}
+use Rattle.encode_spec.proofs.Meanings.{all-at}
+use Rattle.encode_spec.proofs.Operations.{by-operation}
+use Rattle.encode_plans.specs.Plans.{tail, head, fixed, formPlan, choicePlan, refusing, planOf}
+use Rattle.encode_fields.specs.Fields.{joined, operand, other}
 use Rattle.encoder.specs.Coded.{planAnswer, coded}
 use Rattle.encoder.proofs.Joins.{asked-joined, listed, listed-append, emits, refuses}
 use Rattle.encoder.proofs.Tails.{behind, codes, kindFits, SlotTied, slot-tied}

@@ -8,12 +8,12 @@ use Rattle.mrc_compiler.specs.declared.encoder.InstructionData.{InstructionData
 use Rattle.mrc_compiler.specs.declared.encoder.generate.Plan.{Plan}
 use Rattle.mrc_compiler.specs.declared.encoder.generate.Plan.the-variants as P
 use Rattle.mrc_compiler.specs.Choose.{pick}
-use Rattle.answers.specs.Records.{dst, src}
-use Rattle.answers.specs.WellFormed.{wellFormed}
-use Rattle.answers.specs.Questions.{errorOf}
-use Rattle.answers.specs.Answer.{Answer, refused}
-use Rattle.plans.specs.Plans.{planOf}
-use Rattle.emit.specs.Emit.{codesAnswer}
+use Rattle.encode_spec.specs.Records.{dst, src}
+use Rattle.encode_spec.specs.WellFormed.{wellFormed}
+use Rattle.encode_spec.specs.Questions.{errorOf}
+use Rattle.encode_spec.specs.Answer.{Answer, refused}
+use Rattle.encode_plans.specs.Plans.{planOf}
+use Rattle.encode_codes.specs.Emit.{codesAnswer}
 
 abbrev pub planAnswer : Plan → InstructionData → ℕ → Answer
 planAnswer (P.Emit codes) insn off = codesAnswer codes insn off

@@ -3,7 +3,7 @@
 use lib.ListN.{length}
 use Rattle.mrc_compiler.specs.declared.encoder.Encoded.{Encoded}
 use Rattle.mrc_compiler.specs.declared.encoder.Encoded.the-variants as N
-use Rattle.answers.specs.Answer.{Answer, bytes, refused}
+use Rattle.encode_spec.specs.Answer.{Answer, bytes, refused}
 
 abbrev pub lengthOf : Answer → Encoded
 lengthOf (bytes bs) = N.Length (length bs)

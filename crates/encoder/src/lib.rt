@@ -5,16 +5,16 @@ ghost use Prim.Native.Nat.{_≤_};
 ghost use lib.Dec.{leb};
 ghost use lib.ListN.{length, take, drop};
 ghost use Rattle.mrc_compiler.specs.Choose.{pick};
-ghost use Rattle.answers.specs.Questions.{spanAt, errorOf};
-ghost use Rattle.answers.specs.Answer.{answer, outcome, sliceAfter};
-ghost use Rattle.answers.specs.Answer as Answers;
-ghost use Rattle.emitter.specs.Run.{emptyRun};
-ghost use Rattle.emit.specs.Emit.{emitted};
+ghost use Rattle.encode_spec.specs.Questions.{spanAt, errorOf};
+ghost use Rattle.encode_spec.specs.Answer.{answer, outcome, sliceAfter};
+ghost use Rattle.encode_spec.specs.Answer as Answers;
+ghost use Rattle.encode_run.specs.Run.{emptyRun};
+ghost use Rattle.encode_codes.specs.Emit.{emitted};
 ghost use Rattle.encoder.specs.Coded.{coded, planAnswer};
 ghost use Rattle.encoder.specs.Lengths.{lengthOf};
-use emit::Emitted;
-use emitter::ByteRun;
-use fields::Refusal;
+use encode_codes::Emitted;
+use encode_fields::Refusal;
+use encode_run::ByteRun;
 use mrc_compiler::ast::Span;
 use mrc_compiler::encoder::EncodeError;
 use mrc_compiler::encoder::Encoded;
@@ -55,7 +55,7 @@ fn refused(error: EncodeError) -> Emitted
 {
     Emitted {
         refusal: Refusal::Because(error),
-        run: emitter::empty_run(),
+        run: encode_run::empty_run(),
     }
 }
 
@@ -64,7 +64,7 @@ fn run_of_plan(plan: Plan, insn: InstructionData, offset: u16) -> Emitted
     ensures { λ r. ⌜ r ≡ emitted emptyRun (planAnswer plan insn offset) ⌝ }
 {
     match plan {
-        Plan::Emit(codes) => emit::codes_run(insn, offset, codes),
+        Plan::Emit(codes) => encode_codes::codes_run(insn, offset, codes),
         Plan::Refused(why, at) => refused(error_of(why, at, insn)),
     }
 }
@@ -81,9 +81,9 @@ pub fn run_of(insn: InstructionData, offset: u16) -> Emitted
     if 2 < insn.num_opers {
         return refused(EncodeError::NotWellFormed(span));
     }
-    if wellformed::is_well_formed(dst) {
-        if wellformed::is_well_formed(src) {
-            run_of_plan(dispatch::plan_of(insn), insn, offset)
+    if encode_operand::is_well_formed(dst) {
+        if encode_operand::is_well_formed(src) {
+            run_of_plan(encode_dispatch::plan_of(insn), insn, offset)
         } else {
             refused(EncodeError::NotWellFormed(src_span))
         }

@@ -9,10 +9,10 @@ use lib.Dec.{eqb}
 use lib.ListN.{length}
 use Rattle.mrc_compiler.specs.declared.encoder.InstructionData.{InstructionData}
 use Rattle.mrc_compiler.specs.Choose.{pick}
-use Rattle.report.specs.declared.Told.{Told}
-use Rattle.report.specs.Crossing.{toldAlone}
-use Rattle.records.specs.Record.{codesKnown, instructionAt}
-use Rattle.foreign.specs.EncodeRecord.{Record, wrong-length, unknown-code, of, recordOf, recordNumber, toldOf, leftBy}
+use Rattle.foreign_report.specs.declared.Response.{Response}
+use Rattle.foreign_report.specs.Crossing.{responseAlone}
+use Rattle.show_record.specs.Record.{codesKnown, instructionAt}
+use Rattle.foreign.specs.EncodeRecord.{Record, wrong-length, unknown-code, of, recordOf, recordNumber, responseOf, leftBy}
 use borrow.Author.Tests.{eqb-true}
 
 -- a record where record_number answers 0
@@ -28,11 +28,11 @@ is-record s = go (eqb (length s) 56) (codesKnown s) refl refl
 
 -- else its number stands alone, and nothing is written
 pub record Refused (r : Record) : Type 0 where
-  pub tells : (f : InstructionData → Told) → toldAlone (recordNumber r) ≡ toldOf r f
+  pub tells : (f : InstructionData → Response) → responseAlone (recordNumber r) ≡ responseOf r f
   pub leaves : (out : List ℕ) (g : InstructionData → List ℕ) → out ≡ leftBy r out g
 
 pub not-record : (r : Record) → (recordNumber r ≡ 0 → ⊥) → Refused r
-unfolding toldOf leftBy
+unfolding responseOf leftBy
 not-record wrong-length h = record { tells = λ f. refl; leaves = λ out g. refl }
 not-record unknown-code h = record { tells = λ f. refl; leaves = λ out g. refl }
 not-record (of insn) h = absurd (h refl)

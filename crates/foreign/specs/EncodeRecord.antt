@@ -6,10 +6,10 @@ use lib.Dec.{eqb}
 use lib.ListN.{length}
 use Rattle.mrc_compiler.specs.declared.encoder.InstructionData.{InstructionData}
 use Rattle.mrc_compiler.specs.Choose.{pick}
-use Rattle.answers.specs.Answer.{answer, outcome, sliceAfter}
-use Rattle.records.specs.Record.{recordLength, codesKnown, instructionAt}
-use Rattle.report.specs.declared.Told.{Told}
-use Rattle.report.specs.Crossing.{toldAlone, toldEncoded}
+use Rattle.encode_spec.specs.Answer.{answer, outcome, sliceAfter}
+use Rattle.show_record.specs.Record.{recordLength, codesKnown, instructionAt}
+use Rattle.foreign_report.specs.declared.Response.{Response}
+use Rattle.foreign_report.specs.Crossing.{responseAlone, responseEncoded}
 
 pub data Record : Type 0 where
   wrong-length : Record  -- 14
@@ -26,18 +26,18 @@ recordNumber unknown-code = 15
 recordNumber (of insn) = 0
 
 -- 14 and 15 stand alone, and nothing is written for them
-unfoldable pub toldOf : Record → (InstructionData → Told) → Told
-toldOf wrong-length f = toldAlone (recordNumber wrong-length)
-toldOf unknown-code f = toldAlone (recordNumber unknown-code)
-toldOf (of insn) f = f insn
+unfoldable pub responseOf : Record → (InstructionData → Response) → Response
+responseOf wrong-length f = responseAlone (recordNumber wrong-length)
+responseOf unknown-code f = responseAlone (recordNumber unknown-code)
+responseOf (of insn) f = f insn
 
 unfoldable pub leftBy : Record → List ℕ → (InstructionData → List ℕ) → List ℕ
 leftBy wrong-length out f = out
 leftBy unknown-code out f = out
 leftBy (of insn) out f = f insn
 
-abbrev pub toldRecord : Record → ℕ → List ℕ → Told
-toldRecord r off out = toldOf r (λ insn. toldEncoded (outcome (answer insn off) (insn .«opers_span») out))
+abbrev pub responseRecord : Record → ℕ → List ℕ → Response
+responseRecord r off out = responseOf r (λ insn. responseEncoded (outcome (answer insn off) (insn .«opers_span») out))
 
 abbrev pub outAfter : Record → ℕ → List ℕ → List ℕ
 outAfter r off out = leftBy r out (λ insn. sliceAfter (answer insn off) out)

@@ -13,13 +13,13 @@ use Rattle.mrc_compiler.specs.Operations.{numberOf}
 use Rattle.x86.specs.declared.Instruction.{Instruction}
 use Rattle.x86.specs.declared.Operand.{Operand}
 use Rattle.x86.specs.declared.Operand.the-variants as O
-use Rattle.forms.specs.declared.Extension.{Extension}
-use Rattle.forms.specs.declared.Extension.the-variants as X
-use Rattle.forms.specs.declared.FormName.{FormName}
+use Rattle.x86_forms.specs.declared.Extension.{Extension}
+use Rattle.x86_forms.specs.declared.Extension.the-variants as X
+use Rattle.x86_forms.specs.declared.FormName.{FormName}
 use Rattle.reader.specs.declared.Decoded.{Decoded}
 use Rattle.reader.specs.declared.Decoded.the-variants.{Whole, Nothing, More}
-use Rattle.x86.specs.Operands.{outlineOf, displacementIn, valueIn, farSegmentIn, sizeNumber}
-use Rattle.report.specs.Crossing.{threeBytes}
+use Rattle.x86.specs.Operands.{typeOf, displacementIn, valueIn, farSegmentIn, sizeNumber}
+use Rattle.foreign_report.specs.Crossing.{threeBytes}
 
 -- ES, CS, SS, DS
 abbrev pub segmentNumber : Segment → ℕ
@@ -52,7 +52,7 @@ abbrev pub headOf : Instruction → FormName → ℕ → ℕ
 headOf m f n = n % 256 + 256 * (numberOf (m .operation) + 256 * (sizeNumber (m .width) + 256 * (f .opcode)))
 
 unfoldable pub operandHead : Operand → ℕ
-operandHead o = outlineOf o .kind + 256 * (outlineOf o .number + 256 * segmentIn o)
+operandHead o = typeOf o .kind + 256 * (typeOf o .number + 256 * segmentIn o)
 
 -- one of displacement and value is 0
 unfoldable pub operandValues : Operand → ℕ

@@ -1,33 +1,33 @@
 // One record of a show file, encoded.
 ghost use mathlib.Core.Path.{_≡_};
-ghost use Rattle.report.specs.Crossing.{reportAfter};
-ghost use Rattle.foreign.specs.EncodeRecord.{recordOf, recordNumber, toldRecord, outAfter};
-use report::Told;
-use report::told_alone;
-use report::told_encoded;
-use report::write_report;
+ghost use Rattle.foreign_report.specs.Crossing.{reportAfter};
+ghost use Rattle.foreign.specs.EncodeRecord.{recordOf, recordNumber, responseRecord, outAfter};
+use foreign_report::Response;
+use foreign_report::response_alone;
+use foreign_report::response_encoded;
+use foreign_report::write_report;
 
 // 14 or 15 where the bytes are not a record, else 0.
 pub fn record_number(rec: &[u8]) -> u8
     ensures { λ r. ⌜ r ≡ recordNumber (recordOf (now (rec .entry))) ⌝ }
 {
-    if rec.len() != records::RECORD_LENGTH {
+    if rec.len() != show_record::RECORD_LENGTH {
         return 14;
     }
-    if records::codes_known(rec) { 0 } else { 15 }
+    if show_record::codes_known(rec) { 0 } else { 15 }
 }
 
 // Encodes the record into the front of out, and tells the answer.
-fn told_record(rec: &[u8], offset: u16, out: &mut [u8]) -> Told
-    ensures { λ r. ⌜ r ≡ toldRecord (recordOf (now (rec .entry))) offset (now (out .entry)) ⌝ }
+fn response_record(rec: &[u8], offset: u16, out: &mut [u8]) -> Response
+    ensures { λ r. ⌜ r ≡ responseRecord (recordOf (now (rec .entry))) offset (now (out .entry)) ⌝ }
     ensures { λ _. ⌜ now (out .exit) ≡ outAfter (recordOf (now (rec .entry))) offset (now (out .entry)) ⌝ }
 {
     let number = record_number(rec);
     if number == 0 {
-        let insn = records::instruction_at(rec);
-        told_encoded(encoder::encode(insn, offset, out))
+        let insn = show_record::instruction_at(rec);
+        response_encoded(encoder::encode(insn, offset, out))
     } else {
-        told_alone(number)
+        response_alone(number)
     }
 }
 
@@ -41,11 +41,11 @@ fn told_record(rec: &[u8], offset: u16, out: &mut [u8]) -> Told
 // In C: uint8_t fsq_encode(const uint8_t *rec, size_t rec_len, uint16_t offset, uint8_t *out, size_t out_len, uint8_t *report, size_t report_len);
 #[no_mangle]
 pub extern "C" fn fsq_encode(rec: &[u8], offset: u16, out: &mut [u8], report: &mut [u8]) -> u8
-    ensures { λ r. ⌜ r ≡ toldRecord (recordOf (now (rec .entry))) offset (now (out .entry)) .number ⌝ }
+    ensures { λ r. ⌜ r ≡ responseRecord (recordOf (now (rec .entry))) offset (now (out .entry)) .number ⌝ }
     ensures { λ _. ⌜ now (out .exit) ≡ outAfter (recordOf (now (rec .entry))) offset (now (out .entry)) ⌝ }
-    ensures { λ _. ⌜ now (report .exit) ≡ reportAfter (toldRecord (recordOf (now (rec .entry))) offset (now (out .entry))) (now (report .entry)) ⌝ }
+    ensures { λ _. ⌜ now (report .exit) ≡ reportAfter (responseRecord (recordOf (now (rec .entry))) offset (now (out .entry))) (now (report .entry)) ⌝ }
 {
-    let told = told_record(rec, offset, out);
-    write_report(told, report);
-    told.number
+    let response = response_record(rec, offset, out);
+    write_report(response, report);
+    response.number
 }

@@ -1,37 +1,37 @@
 // All strings of one record's instruction.
 ghost use mathlib.Core.Path.{_≡_};
-ghost use Rattle.report.specs.Crossing.{reportAfter};
+ghost use Rattle.foreign_report.specs.Crossing.{reportAfter};
 ghost use Rattle.foreign.specs.EncodeRecord.{recordOf};
-ghost use Rattle.foreign.specs.ListRecord.{toldListed, toldListing, listAfter};
+ghost use Rattle.foreign.specs.ListRecord.{responseListed, responseListing, listAfter};
 use crate::encode::record_number;
+use foreign_report::Response;
+use foreign_report::response_alone;
+use foreign_report::response_length;
+use foreign_report::response_refusal;
+use foreign_report::write_report;
 use lister::Listed;
-use report::Told;
-use report::told_alone;
-use report::told_length;
-use report::told_refusal;
-use report::write_report;
 
 // An answer of the lister.
-fn told_listed(listed: Listed) -> Told
-    ensures { λ r. ⌜ r ≡ toldListed listed ⌝ }
+fn response_listed(listed: Listed) -> Response
+    ensures { λ r. ⌜ r ≡ responseListed listed ⌝ }
 {
     match listed {
-        Listed::Count(n) => told_length(n),
-        Listed::Refused(e) => told_refusal(e),
+        Listed::Count(n) => response_length(n),
+        Listed::Refused(e) => response_refusal(e),
     }
 }
 
 // Lists the record's instruction into the front of out, and tells the answer.
-fn told_listing(rec: &[u8], offset: u16, out: &mut [u8]) -> Told
-    ensures { λ r. ⌜ r ≡ toldListing (recordOf (now (rec .entry))) offset (now (out .entry)) ⌝ }
+fn response_listing(rec: &[u8], offset: u16, out: &mut [u8]) -> Response
+    ensures { λ r. ⌜ r ≡ responseListing (recordOf (now (rec .entry))) offset (now (out .entry)) ⌝ }
     ensures { λ _. ⌜ now (out .exit) ≡ listAfter (recordOf (now (rec .entry))) offset (now (out .entry)) ⌝ }
 {
     let number = record_number(rec);
     if number == 0 {
-        let insn = records::instruction_at(rec);
-        told_listed(lister::list(insn, offset, out))
+        let insn = show_record::instruction_at(rec);
+        response_listed(lister::list(insn, offset, out))
     } else {
-        told_alone(number)
+        response_alone(number)
     }
 }
 
@@ -45,11 +45,11 @@ fn told_listing(rec: &[u8], offset: u16, out: &mut [u8]) -> Told
 // In C: uint8_t fsq_list(const uint8_t *rec, size_t rec_len, uint16_t offset, uint8_t *out, size_t out_len, uint8_t *report, size_t report_len);
 #[no_mangle]
 pub extern "C" fn fsq_list(rec: &[u8], offset: u16, out: &mut [u8], report: &mut [u8]) -> u8
-    ensures { λ r. ⌜ r ≡ toldListing (recordOf (now (rec .entry))) offset (now (out .entry)) .number ⌝ }
+    ensures { λ r. ⌜ r ≡ responseListing (recordOf (now (rec .entry))) offset (now (out .entry)) .number ⌝ }
     ensures { λ _. ⌜ now (out .exit) ≡ listAfter (recordOf (now (rec .entry))) offset (now (out .entry)) ⌝ }
-    ensures { λ _. ⌜ now (report .exit) ≡ reportAfter (toldListing (recordOf (now (rec .entry))) offset (now (out .entry))) (now (report .entry)) ⌝ }
+    ensures { λ _. ⌜ now (report .exit) ≡ reportAfter (responseListing (recordOf (now (rec .entry))) offset (now (out .entry))) (now (report .entry)) ⌝ }
 {
-    let told = told_listing(rec, offset, out);
-    write_report(told, report);
-    told.number
+    let response = response_listing(rec, offset, out);
+    write_report(response, report);
+    response.number
 }

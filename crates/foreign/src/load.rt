@@ -1,38 +1,38 @@
 // A show file, loaded.
 ghost use mathlib.Core.Path.{_≡_};
 ghost use lib.ListN.{length};
-ghost use Rattle.loader.specs.Loading.{loaded, imageAfter};
-ghost use Rattle.report.specs.Crossing.{reportAfter};
-ghost use Rattle.foreign.specs.LoadShow.{toldLoadError, toldLoaded};
-use loader::Loaded;
-use report::Told;
-use report::of_record;
-use report::told_alone;
-use report::told_length;
-use report::told_refusal;
-use report::write_report;
+ghost use Rattle.show_load.specs.Loading.{loaded, imageAfter};
+ghost use Rattle.foreign_report.specs.Crossing.{reportAfter};
+ghost use Rattle.foreign.specs.LoadShow.{responseLoadError, responseLoaded};
+use foreign_report::Response;
+use foreign_report::of_record;
+use foreign_report::response_alone;
+use foreign_report::response_length;
+use foreign_report::response_refusal;
+use foreign_report::write_report;
 use show_file::LoadError;
+use show_load::Loaded;
 
 // A refusal of the loader.
-fn told_load_error(error: LoadError) -> Told
-    ensures { λ r. ⌜ r ≡ toldLoadError error ⌝ }
+fn response_load_error(error: LoadError) -> Response
+    ensures { λ r. ⌜ r ≡ responseLoadError error ⌝ }
 {
     match error {
-        LoadError::NoMark => told_alone(12),
-        LoadError::WrongVersion => told_alone(13),
-        LoadError::WrongLength => told_alone(14),
-        LoadError::UnknownCode(k) => of_record(told_alone(15), k),
-        LoadError::Record(k, e) => of_record(told_refusal(e), k),
+        LoadError::NoMark => response_alone(12),
+        LoadError::WrongVersion => response_alone(13),
+        LoadError::WrongLength => response_alone(14),
+        LoadError::UnknownCode(k) => of_record(response_alone(15), k),
+        LoadError::Record(k, e) => of_record(response_refusal(e), k),
     }
 }
 
 // An answer of the loader.
-fn told_loaded(answer: Loaded) -> Told
-    ensures { λ r. ⌜ r ≡ toldLoaded answer ⌝ }
+fn response_loaded(answer: Loaded) -> Response
+    ensures { λ r. ⌜ r ≡ responseLoaded answer ⌝ }
 {
     match answer {
-        Loaded::Image(_, n) => told_length(n),
-        Loaded::Refused(error) => told_load_error(error),
+        Loaded::Image(_, n) => response_length(n),
+        Loaded::Refused(error) => response_load_error(error),
     }
 }
 
@@ -45,12 +45,12 @@ fn told_loaded(answer: Loaded) -> Told
 // In C: uint8_t fsq_load(const uint8_t *file, size_t file_len, uint8_t *image, size_t image_len, uint8_t *report, size_t report_len);
 #[no_mangle]
 pub extern "C" fn fsq_load(file: &[u8], image: &mut [u8], report: &mut [u8]) -> u8
-    ensures { λ r. ⌜ r ≡ toldLoaded (loaded (now (file .entry)) (length (now (image .entry)))) .number ⌝ }
+    ensures { λ r. ⌜ r ≡ responseLoaded (loaded (now (file .entry)) (length (now (image .entry)))) .number ⌝ }
     ensures { λ _. ⌜ now (image .exit) ≡ imageAfter (now (file .entry)) (now (image .entry)) ⌝ }
-    ensures { λ _. ⌜ now (report .exit) ≡ reportAfter (toldLoaded (loaded (now (file .entry)) (length (now (image .entry))))) (now (report .entry)) ⌝ }
+    ensures { λ _. ⌜ now (report .exit) ≡ reportAfter (responseLoaded (loaded (now (file .entry)) (length (now (image .entry))))) (now (report .entry)) ⌝ }
 {
-    let answer = loader::load(file, image);
-    let told = told_loaded(answer);
-    write_report(told, report);
-    told.number
+    let answer = show_load::load(file, image);
+    let response = response_loaded(answer);
+    write_report(response, report);
+    response.number
 }

@@ -5,13 +5,13 @@ ghost use mathlib.Core.List.{_++_};
 ghost use lib.ListN.{length, drop};
 ghost use Rattle.reader.specs.Answer.{decoded};
 ghost use Rattle.foreign.specs.ReadBytes.{segmentIn, extensionNumber, headOf, operandHead, operandValues, readBytes, readNumber, readAfter};
-use forms::Extension;
-use forms::FormName;
+use foreign_report::put_three;
 use mrc_compiler::ast::Segment;
 use reader::Decoded;
-use report::put_three;
 use x86::Instruction;
 use x86::Operand;
+use x86_forms::Extension;
+use x86_forms::FormName;
 
 // The segment in effect of memory.
 fn segment_in(oper: Operand) -> u8
@@ -61,9 +61,9 @@ fn head_of(insn: Instruction, form: FormName, n: usize) -> u32
 fn operand_head(oper: Operand) -> u32
     ensures { λ r. ⌜ r ≡ operandHead oper ⌝ }
 {
-    let outline = x86::operands::outline_of(oper);
+    let operand_type = x86::operands::type_of(oper);
     let segment = segment_in(oper);
-    outline.kind as u32 + 256 * (outline.number as u32 + 256 * (segment as u32))
+    operand_type.kind as u32 + 256 * (operand_type.number as u32 + 256 * (segment as u32))
 }
 
 fn operand_values(oper: Operand) -> u32

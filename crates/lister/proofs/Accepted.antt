@@ -13,14 +13,14 @@ use Rattle.x86.specs.declared.Instruction.{Instruction}
 use Rattle.x86.specs.declared.Read.{Read}
 use Rattle.x86.specs.declared.Read.the-variants.{Whole, Nothing, More}
 use Rattle.x86.specs.Reading.{reads}
-use Rattle.answers.specs.Answer.{Answer, bytes, refused, answer}
-use Rattle.answers.proofs.Accepted.{accepted-reads}
-use Rattle.emitter.specs.declared.ByteRun.{ByteRun}
-use Rattle.fields.specs.declared.Refusal.the-variants as R
-use Rattle.emit.specs.declared.Emitted.{Emitted}
-use Rattle.emitter.specs.Run.{emptyRun, appended}
-use Rattle.emit.specs.Emit.{emitted}
-use Rattle.listing.specs.Entries.{entries, listing}
+use Rattle.encode_spec.specs.Answer.{Answer, bytes, refused, answer}
+use Rattle.encode_spec.proofs.Accepted.{accepted-reads}
+use Rattle.encode_run.specs.declared.ByteRun.{ByteRun}
+use Rattle.encode_fields.specs.declared.Refusal.the-variants as R
+use Rattle.encode_codes.specs.declared.Emitted.{Emitted}
+use Rattle.encode_run.specs.Run.{emptyRun, appended}
+use Rattle.encode_codes.specs.Emit.{emitted}
+use Rattle.list_spec.specs.Entries.{entries, listing}
 use Rattle.lister.specs.declared.Listed.the-variants as N
 use Rattle.lister.specs.Listing.{listingOf, listed, outcome, sliceAfter}
 use Rattle.lister.proofs.Runs.{Holds, holds}

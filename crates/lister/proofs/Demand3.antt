@@ -14,12 +14,12 @@ use Rattle.mrc_compiler.specs.declared.encoder.EncodeError.the-variants as E
 use Rattle.mrc_compiler.specs.declared.encoder.InstructionData.{InstructionData}
 use Rattle.mrc_compiler.specs.Choose.{pick}
 use Rattle.x86.specs.Listing.{Among, here, later, Before}
-use Rattle.answers.specs.Meaning.{meaning}
-use Rattle.answers.specs.Answer.{Answer, bytes, refused, answer}
-use Rattle.listing.specs.Entries.{entry, entries, listing}
-use Rattle.listing.specs.Demand3.{Lists}
-use Rattle.listing.proofs.Order.{entry-length}
-use Rattle.listing.proofs.Accepted.{accepted-lists}
+use Rattle.encode_spec.specs.Meaning.{meaning}
+use Rattle.encode_spec.specs.Answer.{Answer, bytes, refused, answer}
+use Rattle.list_spec.specs.Entries.{entry, entries, listing}
+use Rattle.list_spec.specs.Demand3.{Lists}
+use Rattle.list_spec.proofs.Order.{entry-length}
+use Rattle.list_spec.proofs.Accepted.{accepted-lists}
 use Rattle.lister.specs.declared.Listed.the-variants as N
 use Rattle.lister.specs.Listing.{listed, outcome, sliceAfter}
 use Rattle.lister.specs.Demand3.{entryAt, Listed3}

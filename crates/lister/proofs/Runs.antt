@@ -14,12 +14,12 @@ use borrow.Author.Tests.{lt-ltb, le-ltb}
 use Rattle.x86.specs.declared.Instruction.{Instruction}
 use Rattle.x86.specs.declared.Read.{Read}
 use Rattle.x86.specs.Reading.{reads}
-use Rattle.emitter.specs.declared.ByteRun.{ByteRun}
-use Rattle.emitter.specs.Run.{emptyRun, appended}
-use Rattle.listing.specs.Operands.{prefixOf}
-use Rattle.listing.specs.Candidates.{candidate}
-use Rattle.listing.specs.Entries.{entry, spelled, key, isWhole, readsAs, candidateKey}
-use Rattle.listing.proofs.Short.{candidate-short}
+use Rattle.encode_run.specs.declared.ByteRun.{ByteRun}
+use Rattle.encode_run.specs.Run.{emptyRun, appended}
+use Rattle.list_spec.specs.Operands.{prefixOf}
+use Rattle.list_spec.specs.Candidates.{candidate}
+use Rattle.list_spec.specs.Entries.{entry, spelled, key, isWhole, readsAs, candidateKey}
+use Rattle.list_spec.proofs.Short.{candidate-short}
 use Rattle.lister.specs.Runs.{keyOf}
 
 -- what a run holds of a string of at most seven bytes

@@ -6,8 +6,8 @@ use mathlib.Core.List.{List}
 use lib.ListN.{length, take, drop}
 use Rattle.mrc_compiler.specs.declared.encoder.InstructionData.{InstructionData}
 use Rattle.x86.specs.Listing.{Bytes, ReadsAs, Before}
-use Rattle.answers.specs.Meaning.{meaning}
-use Rattle.listing.specs.Entries.{entry}
+use Rattle.encode_spec.specs.Meaning.{meaning}
+use Rattle.list_spec.specs.Entries.{entry}
 
 -- eight bytes of a slice
 abbrev pub entryAt : ℕ → List ℕ → List ℕ

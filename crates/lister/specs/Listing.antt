@@ -9,9 +9,9 @@ use Rattle.mrc_compiler.specs.declared.encoder.InstructionData.{InstructionData
 use Rattle.mrc_compiler.specs.Choose.{pick}
 use Rattle.x86.specs.declared.Read.{Read}
 use Rattle.x86.specs.declared.Read.the-variants.{Whole, Nothing, More}
-use Rattle.answers.specs.Meaning.{meaning}
-use Rattle.answers.specs.Answer.{Answer, bytes, refused}
-use Rattle.listing.specs.Entries.{entries, listing}
+use Rattle.encode_spec.specs.Meaning.{meaning}
+use Rattle.encode_spec.specs.Answer.{Answer, bytes, refused}
+use Rattle.list_spec.specs.Entries.{entries, listing}
 use Rattle.lister.specs.declared.Listed.{Listed}
 use Rattle.lister.specs.declared.Listed.the-variants as N
 

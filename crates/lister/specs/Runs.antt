@@ -2,7 +2,7 @@
 -- Definitions only.
 use Prim.Native.Nat.{ℕ, _+_, _*_}
 use lib.ListN.{getD}
-use Rattle.emitter.specs.declared.ByteRun.{ByteRun}
+use Rattle.encode_run.specs.declared.ByteRun.{ByteRun}
 
 abbrev pub keyOf : ByteRun → ℕ
 keyOf run =

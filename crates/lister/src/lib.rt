@@ -4,12 +4,12 @@ ghost use mathlib.Core.List.{_++_};
 ghost use Prim.Native.Nat.{_*_, _<_, _≤_};
 ghost use lib.ListN.{length, take, drop, getD};
 ghost use Rattle.x86.specs.Reading.{reads};
-ghost use Rattle.answers.specs.Answer.{answer};
-ghost use Rattle.listing.specs.Entries.{isWhole, candidateKey, listing, entries};
+ghost use Rattle.encode_spec.specs.Answer.{answer};
+ghost use Rattle.list_spec.specs.Entries.{isWhole, candidateKey, listing, entries};
 ghost use Rattle.lister.specs.Runs.{keyOf};
 ghost use Rattle.lister.specs.Listing.{listingOf, outcome, sliceAfter};
-use emitter::ByteRun;
-use fields::Refusal;
+use encode_fields::Refusal;
+use encode_run::ByteRun;
 use mrc_compiler::encoder::EncodeError;
 use mrc_compiler::encoder::InstructionData;
 use x86::Instruction;
@@ -58,7 +58,7 @@ fn is_whole(read: Read, insn: Instruction, n: usize) -> bool
 {
     match read {
         Read::Whole(other, k) => {
-            if compare::same_instruction(other, insn) {
+            if list_compare::same_instruction(other, insn) {
                 return k == n;
             }
             false
@@ -72,7 +72,7 @@ fn is_whole(read: Read, insn: Instruction, n: usize) -> bool
 fn candidate_key(offset: u16, insn: Instruction, i: u8) -> u64
     ensures { λ r. ⌜ r ≡ candidateKey offset insn i ⌝ }
 {
-    let run = candidates::candidate_run(offset, insn, i);
+    let run = list_candidates::candidate_run(offset, insn, i);
     let bytes = run.bytes;
     let n = run.len;
     if is_whole(reader::read_at(&bytes[..n], offset), insn, n) {
@@ -89,7 +89,7 @@ fn list_instruction(offset: u16, insn: Instruction, out: &mut [u8]) -> usize
 {
     let mut keys: [u64; 12] = [0, 0, 0, 0, 0, 0, 0, 0, 0, 0, 0, 0];
     let mut i: usize = 0;
-    let most = if candidates::prefix_of(insn) == 0 {
+    let most = if list_candidates::prefix_of(insn) == 0 {
         6
     } else {
         12
@@ -102,7 +102,7 @@ fn list_instruction(offset: u16, insn: Instruction, out: &mut [u8]) -> usize
         };
         i += 1;
     }
-    entries::write_entries(keys, out)
+    list_entries::write_entries(keys, out)
 }
 
 // Writes the listing of the instruction that a run reads as.

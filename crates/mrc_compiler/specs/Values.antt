@@ -14,6 +14,6 @@ abbrev pub modZ : ℕ → ℤ → ℕ
 modZ m (pos n) = n % m
 modZ m (negsuc n) = m - 1 - n % m
 
--- n ÷ 8
-abbrev pub eighth : ℕ → ℕ
-eighth n = n / 8
+-- the /n of ADD OR ADC SBB AND SUB XOR CMP, by the first opcode of the operation
+abbrev pub digitOf : ℕ → ℕ
+digitOf n = n / 8

@@ -16,8 +16,8 @@ use Rattle.x86.specs.Rows.{Shape, asRead, rows}
 use Rattle.x86.proofs.Rows.{as-read}
 use Rattle.mrc_compiler.specs.declared.operations.OptionOperation.{OptionOperation}
 use Rattle.mrc_compiler.specs.declared.operations.OptionOperation.the-variants as D
-use Rattle.rows.specs.Rows.{nameOf, noForm, foundAt, extensionAt, shapeForm, anyForm, formAt}
-use Rattle.rows.proofs.Agree.{seen, saidBy, said, Agrees, agrees}
+use Rattle.read_table.specs.Rows.{nameOf, noForm, foundAt, extensionAt, shapeForm, anyForm, formAt}
+use Rattle.read_table.proofs.Agree.{seen, saidBy, said, Agrees, agrees}
 use Rattle.reader.specs.Answer.{firstOf, goingOn, formBehind, withForm}
 use Rattle.reader.specs.ByRow.{byFound, readShape, decodedShape, shapeWith, decodedSecond, mayFollow, decodedBehind, decodedOpcode}
 

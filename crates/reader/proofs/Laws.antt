@@ -14,7 +14,7 @@ use Rattle.mrc_compiler.specs.declared.operations.Operation.{Operation}
 use Rattle.mrc_compiler.specs.declared.operations.Operation.the-variants.{TEST}
 use Rattle.mrc_compiler.specs.Choose.{pick, both, either, bySize}
 use Rattle.mrc_compiler.specs.Operations.{sameOperation}
-use Rattle.forms.specs.declared.FormName.{FormName}
+use Rattle.x86_forms.specs.declared.FormName.{FormName}
 use Rattle.x86.specs.declared.Operand.{Operand}
 use Rattle.x86.specs.declared.Instruction.{Instruction}
 use Rattle.x86.specs.declared.Read.{Read}
@@ -25,7 +25,7 @@ use Rattle.x86.specs.Instructions.{byRegister, memoryFirst, canonical}
 use Rattle.x86.specs.Listing.{Bytes}
 use Rattle.x86.specs.Reading.{About, about, at, widthOf, addressLength, hasSecond, headLength, memoryLength, tailLength, inMemory, namesMemory, readForm, prefix, reads}
 use Rattle.x86.specs.Rows.{Shape, rows}
-use Rattle.rows.specs.Rows.{testsRegister, extensionAt, shapeForm, anyForm, formAt}
+use Rattle.read_table.specs.Rows.{testsRegister, extensionAt, shapeForm, anyForm, formAt}
 use Rattle.reader.specs.declared.Decoded.{Decoded}
 use Rattle.reader.specs.declared.Decoded.the-variants.{Whole, Nothing, More}
 use Rattle.reader.specs.Answer.{formOf, withForm, decoded}

@@ -13,7 +13,7 @@ use Rattle.x86.specs.Listing.{Bytes}
 use Rattle.x86.specs.Reading.{reads}
 use Rattle.x86.proofs.Extend.{Continues, answers}
 use Rattle.x86.proofs.Sizes.{read-size}
-use Rattle.forms.specs.declared.FormName.{FormName}
+use Rattle.x86_forms.specs.declared.FormName.{FormName}
 use Rattle.reader.specs.declared.Refusal.the-variants as N
 use Rattle.reader.specs.Answer.{formOf, withForm, decoded, refusalOf}
 

@@ -4,11 +4,11 @@ use Prim.Native.Nat.{ℕ}
 use mathlib.Core.List.{List, [], _∷_}
 use lib.ListN.{getD}
 use Rattle.mrc_compiler.specs.Choose.{pick}
-use Rattle.forms.specs.declared.FormName.{FormName}
+use Rattle.x86_forms.specs.declared.FormName.{FormName}
 use Rattle.x86.specs.declared.Read.{Read}
 use Rattle.x86.specs.declared.Read.the-variants as R
 use Rattle.x86.specs.Forms.{Form}
-use Rattle.rows.specs.Rows.{nameOf, noForm}
+use Rattle.read_table.specs.Rows.{nameOf, noForm}
 use Rattle.x86.specs.Reading.{some, startingWith, fitting, hasSecond, prefix, reads}
 use Rattle.reader.specs.declared.Decoded.{Decoded}
 use Rattle.reader.specs.declared.Decoded.the-variants.{Whole, Nothing, More}

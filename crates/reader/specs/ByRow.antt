@@ -14,7 +14,7 @@ use Rattle.x86.specs.Reading.{digit, hasSecond, mayNameMemory, readForm}
 use Rattle.x86.specs.Rows.{Shape, rows, shapeNumbered, byDigit}
 use Rattle.mrc_compiler.specs.declared.operations.OptionOperation.{OptionOperation}
 use Rattle.mrc_compiler.specs.declared.operations.OptionOperation.the-variants as D
-use Rattle.rows.specs.Rows.{noForm, foundAt, extensionAt, shapeForm, anyForm, formAt}
+use Rattle.read_table.specs.Rows.{noForm, foundAt, extensionAt, shapeForm, anyForm, formAt}
 use Rattle.reader.specs.declared.Decoded.{Decoded}
 use Rattle.reader.specs.Answer.{withForm}
 

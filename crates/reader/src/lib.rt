@@ -10,21 +10,21 @@ ghost use Rattle.mrc_compiler.specs.Operations.{sameOperation};
 ghost use Rattle.x86.specs.Instructions.{memoryFirst, canonical};
 ghost use Rattle.x86.specs.Reading.{about, at, addressLength, hasSecond, inMemory, readForm, prefix, reads};
 ghost use Rattle.x86.specs.Rows.{rows};
-ghost use Rattle.rows.specs.Rows.{exchanges, testsRegister, extensionAt, shapeForm, formAt};
+ghost use Rattle.read_table.specs.Rows.{exchanges, testsRegister, extensionAt, shapeForm, formAt};
 ghost use Rattle.reader.specs.Answer.{withForm, decoded, refusalOf};
 ghost use Rattle.reader.specs.ByRow.{mayFollow, decodedShape, shapeWith, decodedOpcode};
-use forms::About;
-use forms::Class;
-use forms::FormName;
-use forms::Place;
-use forms::Shape;
-use forms::Slot;
 use mrc_compiler::encoder::OperandSize;
 use mrc_compiler::operations::Operation;
 use mrc_compiler::operations::OptionOperation;
 use x86::Instruction;
 use x86::Operand;
 use x86::Read;
+use x86_forms::About;
+use x86_forms::Class;
+use x86_forms::FormName;
+use x86_forms::Place;
+use x86_forms::Shape;
+use x86_forms::Slot;
 
 // What stands at the front of some bytes.
 pub enum Decoded {
@@ -57,10 +57,10 @@ fn may_follow(prefix: u8, shape: Shape) -> bool
     let b = second.about();
     let p = a.place;
     let q = b.place;
-    if slots::may_name_memory(p) {
+    if read_slots::may_name_memory(p) {
         return true;
     }
-    slots::may_name_memory(q)
+    read_slots::may_name_memory(q)
 }
 
 // May the prefix stand before slots with these places, with second byte x?
@@ -70,10 +70,10 @@ fn may_stand(prefix: u8, first: Place, second: Place, x: u8) -> bool
     if prefix == 0 {
         return true;
     }
-    if slots::in_memory(first, x) {
+    if read_slots::in_memory(first, x) {
         return true;
     }
-    slots::in_memory(second, x)
+    read_slots::in_memory(second, x)
 }
 
 // The bytes of opcode and second byte.
@@ -88,7 +88,7 @@ fn head_length(prefix: u8, class: Class) -> usize
     ensures { λ r. ⌜ r ≡ pick (eqb prefix 0) 0 1 + pick (hasSecond (extensionAt class)) 2 1 ⌝ }
     ensures small { λ r. ⌜ r ≤ 3 ⌝ }
 {
-    let n = opcode_length(rows::has_second(class));
+    let n = opcode_length(read_table::has_second(class));
     if prefix == 0 { n } else { 1 + n }
 }
 
@@ -97,8 +97,8 @@ fn memory_length(first: Place, second: Place, x: u8) -> usize
     ensures { λ r. ⌜ r ≡ addressLength first x + addressLength second x ⌝ }
     ensures small { λ r. ⌜ r ≤ 510 ⌝ }
 {
-    let a = slots::address_length(first, x);
-    let b = slots::address_length(second, x);
+    let a = read_slots::address_length(first, x);
+    let b = read_slots::address_length(second, x);
     (a as usize) + (b as usize)
 }
 
@@ -118,11 +118,11 @@ fn settled(c: u8, operation: Operation, width: OperandSize, a: Operand, b: Opera
     requires { ⌜ (sameOperation operation XCHG ≡ exchanges c) × (both (sameOperation operation TEST) (memoryFirst a b) ≡ both (testsRegister c) (memoryFirst a b)) × (pick (testsRegister c) (sameOperation operation TEST) true ≡ true) ⌝ }
     ensures { λ r. ⌜ r ≡ canonical operation width a b ⌝ }
 {
-    if rows::is_exchange(c) {
-        return slots::exchange(operation, width, a, b);
+    if read_table::is_exchange(c) {
+        return read_slots::exchange(operation, width, a, b);
     }
-    if rows::tests_register(c) {
-        return slots::register_first(operation, width, a, b);
+    if read_table::tests_register(c) {
+        return read_slots::register_first(operation, width, a, b);
     }
     Instruction {
         operation,
@@ -148,8 +148,8 @@ fn instruction_at(
     requires { ⌜ (sameOperation operation XCHG ≡ exchanges c) × (both (sameOperation operation TEST) (eqb (about second .takes) 0) ≡ testsRegister c) × (next < 131072) × (memory ≤ length (now t)) ⌝ }
     ensures { λ r. ⌜ r ≡ canonical operation width (at first prefix c x next (now (t .entry)) (drop memory (now (t .entry)))) (at second prefix c x next (now (t .entry)) (drop memory (now (t .entry)))) ⌝ }
 {
-    let a = slots::operand_at(first, prefix, c, x, next, t, &t[memory..]);
-    let b = slots::operand_at(second, prefix, c, x, next, t, &t[memory..]);
+    let a = read_slots::operand_at(first, prefix, c, x, next, t, &t[memory..]);
+    let b = read_slots::operand_at(second, prefix, c, x, next, t, &t[memory..]);
     settled(c, operation, width, a, b)
 }
 
@@ -194,7 +194,7 @@ fn read_form(
                 memory,
                 t,
             );
-            let f = rows::form_at(class, c, x);
+            let f = read_table::form_at(class, c, x);
             return Decoded::Whole(m, f, n);
         }
         return Decoded::More;
@@ -212,9 +212,9 @@ fn read_shape(shape: Shape, prefix: u8, c: u8, x: u8, offset: u16, t: &[u8]) -> 
     let second = shape.second;
     let a = first.about();
     let b = second.about();
-    let v = a.only;
-    let w = b.only;
-    match rows::found_at(class, v, w, c, x) {
+    let v = a.restriction;
+    let w = b.restriction;
+    match read_table::found_at(class, v, w, c, x) {
         OptionOperation::None => Decoded::Nothing,
         OptionOperation::Some(operation) => read_form(
             shape,
@@ -251,7 +251,7 @@ fn shape_with(row: u8, shape: Shape, x: u8) -> Shape
     if row < 45 {
         return shape;
     }
-    shapes::shape_of(rows::shape_row(row, x))
+    read_shapes::shape_of(read_table::shape_row(row, x))
 }
 
 // The bytes behind the prefix (0: none).
@@ -260,14 +260,14 @@ fn read_opcode(prefix: u8, s: &[u8], offset: u16) -> Decoded
 {
     if 0 < s.len() {
         let c = s[0];
-        let row = rows::row_of(c);
+        let row = read_table::row_of(c);
         if row == 0 {
             return Decoded::Nothing;
         }
-        let shape = shapes::shape_of(rows::shape_row(row, 0));
+        let shape = read_shapes::shape_of(read_table::shape_row(row, 0));
         if may_follow(prefix, shape) {
             let class = shape.class;
-            let second = rows::has_second(class);
+            let second = read_table::has_second(class);
             let from = opcode_length(second);
             if from <= s.len() {
                 let x = second_byte(second, s);

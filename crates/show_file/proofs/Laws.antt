@@ -8,7 +8,7 @@ use native.Mathlib.Numerals.{add-one}
 use native.Mathlib.Omega.{arith}
 use lib.ListN.{take, drop}
 use Rattle.mrc_compiler.specs.Choose.{pick, isnt}
-use Rattle.records.specs.Record.{codesKnown}
+use Rattle.show_record.specs.Record.{codesKnown}
 use Rattle.show_file.specs.Show.{recordPlace, recordAt, firstFrom, isUnknown}
 
 -- ---- the first that says yes

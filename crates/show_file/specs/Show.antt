@@ -7,7 +7,7 @@ use lib.Dec.{eqb, leb}
 use lib.ListN.{length, take, drop}
 use Rattle.mrc_compiler.specs.declared.encoder.InstructionData.{InstructionData}
 use Rattle.mrc_compiler.specs.Choose.{pick, both, isnt}
-use Rattle.records.specs.Record.{recordLength, byteAt, instructionAt, codesKnown}
+use Rattle.show_record.specs.Record.{recordLength, byteAt, instructionAt, codesKnown}
 use Rattle.show_file.specs.declared.Header.{Header}
 use Rattle.show_file.specs.declared.LoadError.the-variants as E
 use Rattle.show_file.specs.declared.Opened.{Opened}

@@ -75,20 +75,20 @@ const MOST_RECORDS: u16 = 1000;
 fn has_mark(file: &[u8]) -> bool
     ensures { λ r. ⌜ r ≡ hasMark (now (file .entry)) ⌝ }
 {
-    if records::byte_at(file, 0) != 0x46 {
+    if show_record::byte_at(file, 0) != 0x46 {
         return false;
     }
-    if records::byte_at(file, 1) != 0x53 {
+    if show_record::byte_at(file, 1) != 0x53 {
         return false;
     }
-    records::byte_at(file, 2) == 0x51
+    show_record::byte_at(file, 2) == 0x51
 }
 
 fn u16_at(file: &[u8], at: usize) -> u16
     requires { ⌜ at ≤ 7 ⌝ }
     ensures { λ r. ⌜ r ≡ u16At (now (file .entry)) at ⌝ }
 {
-    records::byte_at(file, at) as u16 + 256 * records::byte_at(file, at + 1) as u16
+    show_record::byte_at(file, at) as u16 + 256 * show_record::byte_at(file, at + 1) as u16
 }
 
 // The questions behind the mark.
@@ -107,7 +107,7 @@ fn header_of(file: &[u8]) -> Opened
     if MOST_RECORDS < count {
         return Opened::Refused(LoadError::WrongLength);
     }
-    if file.len() != HEADER_LENGTH + records::RECORD_LENGTH * count as usize {
+    if file.len() != HEADER_LENGTH + show_record::RECORD_LENGTH * count as usize {
         return Opened::Refused(LoadError::WrongLength);
     }
     Opened::Show(Header {
@@ -133,7 +133,7 @@ fn place_of(k: usize) -> usize
     requires { ⌜ k ≤ mostRecords ⌝ }
     ensures { λ r. ⌜ r ≡ recordPlace k ⌝ }
 {
-    HEADER_LENGTH + records::RECORD_LENGTH * k
+    HEADER_LENGTH + show_record::RECORD_LENGTH * k
 }
 
 // Record k of n.
@@ -142,9 +142,9 @@ pub fn insn_at(file: &[u8], n: usize, k: usize) -> InstructionData
     ensures { λ r. ⌜ r ≡ insnAt (now (file .entry)) k ⌝ }
 {
     let from = place_of(k);
-    let to = from + records::RECORD_LENGTH;
+    let to = from + show_record::RECORD_LENGTH;
     let rec = &file[from..to];
-    records::instruction_at(rec)
+    show_record::instruction_at(rec)
 }
 
 // The first record with a code that is not known, or n.
@@ -155,9 +155,9 @@ pub fn first_unknown(file: &[u8], n: usize) -> usize
     let mut k = 0;
     while k < n {
         let from = place_of(k);
-        let to = from + records::RECORD_LENGTH;
+        let to = from + show_record::RECORD_LENGTH;
         let rec = &file[from..to];
-        let is_known = records::codes_known(rec);
+        let is_known = show_record::codes_known(rec);
         if is_known {
             k += 1;
         } else {

@@ -12,17 +12,17 @@ use lib.Seq.{take-suc, take-suc-set}
 use borrow.Author.Tests.{lt-ltb}
 use borrow.Rule.Slice.PartMut.{putMid}
 use Rattle.mrc_compiler.specs.Choose.{pick}
-use Rattle.answers.specs.Answer.{Answer, bytes, refused}
-use Rattle.answers.proofs.Outcomes.{Short}
-use Rattle.emit.specs.declared.Emitted.{Emitted}
-use Rattle.emitter.specs.Run.{emptyRun}
-use Rattle.emit.specs.Emit.{emitted}
+use Rattle.encode_spec.specs.Answer.{Answer, bytes, refused}
+use Rattle.encode_spec.proofs.Outcomes.{Short}
+use Rattle.encode_codes.specs.declared.Emitted.{Emitted}
+use Rattle.encode_run.specs.Run.{emptyRun}
+use Rattle.encode_codes.specs.Emit.{emitted}
 use Rattle.show_file.specs.declared.Header.{Header}
 use Rattle.show_file.specs.declared.LoadError.{LoadError}
 use Rattle.show_file.specs.declared.LoadError.the-variants as E
 use Rattle.show_file.specs.Refusals.{numberOf}
-use Rattle.loader.specs.Loading.{offsetBehind, answerAt, bytesOf, walk, bytesIn, isAll}
-use Rattle.loader.proofs.Laws.{Upto, upto-start, ran, step-all, answer-at-short, Front, front-start, front-next, lent}
+use Rattle.show_load.specs.Loading.{offsetBehind, answerAt, bytesOf, walk, bytesIn, isAll}
+use Rattle.show_load.proofs.Laws.{Upto, upto-start, ran, step-all, answer-at-short, Front, front-start, front-next, lent}
 use Rattle.show_text.specs.declared.Line.{Line}
 use Rattle.show_text.specs.Text.{hexByte, hexWord, hexBytes, digitFrom, decimal, firstLine, lineOf, recordOf, refusedLine, blank, lineFeed, recordLine, linesOf, mostLine}
 use Rattle.show_text.specs.Steps.{emptyLine, pushed, appended}

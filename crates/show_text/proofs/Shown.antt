@@ -11,8 +11,8 @@ use borrow.Author.Tests.{le-leb, leb-true}
 use borrow.Rule.Slice.PartMut.{putMid}
 use Rattle.mrc_compiler.specs.Choose.{pick, both}
 use Rattle.mrc_compiler.specs.Refusals.{reportOf}
-use Rattle.answers.specs.Answer.{Answer, bytes, refused}
-use Rattle.answers.proofs.Outcomes.{numberIn, answer-below}
+use Rattle.encode_spec.specs.Answer.{Answer, bytes, refused}
+use Rattle.encode_spec.proofs.Outcomes.{numberIn, answer-below}
 use Rattle.show_file.specs.declared.Header.{Header}
 use Rattle.show_file.specs.declared.LoadError.{LoadError}
 use Rattle.show_file.specs.declared.LoadError.the-variants as E
@@ -20,10 +20,10 @@ use Rattle.show_file.specs.declared.Opened.{Opened}
 use Rattle.show_file.specs.declared.Opened.the-variants as O
 use Rattle.show_file.specs.Show.{headerLength, knownVersion, mostRecords, hasMark, header, recordPlace, insnAt, headed, opened, firstUnknown}
 use Rattle.show_file.specs.Refusals.{numberOf}
-use Rattle.loader.specs.declared.Loaded.{Loaded}
-use Rattle.loader.specs.declared.Loaded.the-variants as L
-use Rattle.loader.specs.Loading.{Walk, all, stopped, offsetBehind, answerAt, followed, further, walk, measured, showAccepted, acceptedBy, accepted, fitted, loaded}
-use Rattle.loader.proofs.Laws.{accepted-image, within-seven, Front, front-is, front-next, lent, lent-length}
+use Rattle.show_load.specs.declared.Loaded.{Loaded}
+use Rattle.show_load.specs.declared.Loaded.the-variants as L
+use Rattle.show_load.specs.Loading.{Walk, all, stopped, offsetBehind, answerAt, followed, further, walk, measured, showAccepted, acceptedBy, accepted, fitted, loaded}
+use Rattle.show_load.proofs.Laws.{accepted-image, within-seven, Front, front-is, front-next, lent, lent-length}
 use Rattle.show_text.specs.Text.{firstLine, refusedLine, linesOf, imageLength, showText, textBy, text, mostLine, mostText, listed}
 use Rattle.show_text.specs.declared.Line.{Line}
 use Rattle.show_text.specs.declared.Listed.the-variants.{Length as Listed·Length, TooShort as Listed·TooShort}

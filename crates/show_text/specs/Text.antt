@@ -10,9 +10,9 @@ use Rattle.show_file.specs.declared.LoadError.{LoadError}
 use Rattle.show_file.specs.declared.LoadError.the-variants as E
 use Rattle.show_file.specs.Show.{mostRecords}
 use Rattle.show_file.specs.Refusals.{numberOf}
-use Rattle.loader.specs.declared.Loaded.{Loaded}
-use Rattle.loader.specs.declared.Loaded.the-variants as L
-use Rattle.loader.specs.Loading.{offsetBehind, answerAt, bytesOf, walk, bytesIn, loaded}
+use Rattle.show_load.specs.declared.Loaded.{Loaded}
+use Rattle.show_load.specs.declared.Loaded.the-variants as L
+use Rattle.show_load.specs.Loading.{offsetBehind, answerAt, bytesOf, walk, bytesIn, loaded}
 use Rattle.show_text.specs.declared.Listed.{Listed}
 use Rattle.show_text.specs.declared.Listed.the-variants as T
 

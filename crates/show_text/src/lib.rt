@@ -5,13 +5,13 @@ ghost use mathlib.Core.List.{_++_};
 ghost use Prim.Native.Nat.{_*_, _≤_};
 ghost use lib.ListN.{length, take, drop};
 ghost use Rattle.show_file.specs.Show.{recordPlace, mostRecords};
-ghost use Rattle.loader.specs.Loading.{walk, isAll};
+ghost use Rattle.show_load.specs.Loading.{walk, isAll};
 ghost use Rattle.show_text.specs.Text.{hexDigit, hexByte, hexWord, hexBytes, digitFrom, decimal, firstLine, lineOf, recordOf, refusedLine, linesOf, showText, mostLine, mostText, listed, sliceAfter};
 ghost use Rattle.show_text.specs.Steps.{emptyLine, pushed, appended};
-use emitter::ByteRun;
-use loader::Loaded;
+use encode_run::ByteRun;
 use show_file::Header;
 use show_file::LoadError;
+use show_load::Loaded;
 
 // A line of text: bytes and how many of them are there.
 pub struct Line {
@@ -202,9 +202,9 @@ fn write_lines(file: &[u8], n: usize, origin: u16, out: &mut [u8]) -> usize
     let mut at = 0;
     let mut to = 0;
     while k < n {
-        let step = loader::run_at(file, n, origin, k, at);
+        let step = show_load::run_at(file, n, origin, k, at);
         let run = step.run;
-        let offset = loader::offset_behind(origin, at);
+        let offset = show_load::offset_behind(origin, at);
         let line = line_of(offset, run);
         let part = &mut out[to..];
         let m = write_line(line, part);
@@ -239,7 +239,7 @@ pub fn write_text(file: &[u8], out: &mut [u8]) -> Listed
     if out.len() < MOST_TEXT {
         return Listed::TooShort;
     }
-    let show = loader::accept(file);
+    let show = show_load::accept(file);
     match show {
         Loaded::Refused(e) => {
             let line = refused_line(e);

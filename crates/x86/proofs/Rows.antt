@@ -13,7 +13,7 @@ use borrow.Author.Tests.{ltb-true, ltb-false, eqb-true, eqb-false}
 use Rattle.mrc_compiler.specs.Choose.{pick, both}
 use Rattle.x86.specs.Forms.{Slot, rm, rm-near, mem, mem-far, reg, sreg, sreg-not-cs, acc, low3, bits34, bits34-not-cs, CL, DX, one, moffs, xlat, ib, iw, ib-sx, cb, cw, ptr, nil, Extension, Form, forms}
 use Rattle.x86.specs.Forms as F
-use Rattle.x86.specs.Reading.{digit, about, secondFits, onlyFits, fits, fitting, startingWith, at}
+use Rattle.x86.specs.Reading.{digit, about, secondFits, allowsSecond, fits, fitting, startingWith, at}
 use Rattle.x86.specs.Rows.{asRead, Shape, shapeOf, rows, shapeAt}
 use Rattle.x86.proofs.Tests.{both-first, kept, passed}
 use Rattle.x86.proofs.Unambiguous.{xchgAx, nop, at-90}
@@ -139,7 +139,7 @@ read-shape c x h f fs e = go (eqb c 0x90) refl
         let m : List·Memᴰ f (fitting x (startingWith c)) = rw e (List·Memᴰ·head refl) in
         let y : fits x f ≡ true = passed (fits x) (startingWith c) m in
         row-shape c h (eqb-false c 0x90 q) (kept (fits x) (startingWith c) m) (digit x) (omega arith)
-        (digit-fits (f .extension) x (both-first (secondFits (f .extension) x) (both (onlyFits (about (f .first) .only) x) (onlyFits (about (f .second) .only) x)) y))
+        (digit-fits (f .extension) x (both-first (secondFits (f .extension) x) (both (allowsSecond (about (f .first) .restriction) x) (allowsSecond (about (f .second) .restriction) x)) y))
 
 -- a slot reads as the shape's
 pub record ReadsLike (a b : Slot) : Type 0 where

@@ -9,10 +9,10 @@ use Rattle.mrc_compiler.specs.declared.encoder.OperandSize.{OperandSize}
 use Rattle.mrc_compiler.specs.declared.encoder.OperandSize.the-variants as S
 use Rattle.mrc_compiler.specs.declared.operations.Operation.{Operation}
 use Rattle.mrc_compiler.specs.declared.operations.Operation.the-variants.{MOV, PUSH, POP, XCHG, IN, OUT, XLATB, LEA, LDS, LES, LAHF, SAHF, PUSHF, POPF, ADD, ADC, INC, AAA, DAA, SUB, SBB, DEC, NEG, CMP, AAS, DAS, MUL, IMUL, AAM, DIV, IDIV, AAD, CBW, CWD, NOT, SHL, SHR, SAR, ROL, ROR, RCL, RCR, AND, TEST, OR, XOR, REP, REPNE, MOVSB, MOVSW, CMPSB, CMPSW, SCASB, SCASW, LODSB, LODSW, STOSB, STOSW, CALL, JMP, RET, JE, JL, JLE, JB, JBE, JP, JO, JS, JNE, JNL, JNLE, JNB, JNBE, JNP, JNO, JNS, LOOP, LOOPZ, LOOPNZ, JCXZ, INT, INT3, INTO, IRET, CLC, CMC, STC, CLD, STD, CLI, STI, HLT, WAIT, LOCK, NOP, SALC}
-use Rattle.mrc_compiler.specs.Values.{eighth}
+use Rattle.mrc_compiler.specs.Values.{digitOf}
 -- where an operand stands
-pub use Rattle.forms.specs.declared.Slot.{Slot}
-pub use Rattle.forms.specs.declared.Slot.the-variants.{
+pub use Rattle.x86_forms.specs.declared.Slot.{Slot}
+pub use Rattle.x86_forms.specs.declared.Slot.the-variants.{
   Rm as rm,  -- r/m field of ModRM: a register or memory
   RmNear as rm-near,  -- the same, a word that holds a near target
   Mem as mem,  -- r/m field, memory only
@@ -38,8 +38,8 @@ pub use Rattle.forms.specs.declared.Slot.the-variants.{
   Nil as nil,  -- no operand
 }
 -- what the opcode column has beside the opcode
-pub use Rattle.forms.specs.declared.Extension.{Extension}
-pub use Rattle.forms.specs.declared.Extension.the-variants.{
+pub use Rattle.x86_forms.specs.declared.Extension.{Extension}
+pub use Rattle.x86_forms.specs.declared.Extension.the-variants.{
   None as no,
   PlusRegister as +r,  -- 40+rw: the register's number is added to the opcode
   PlusSegment as +s,  -- 06 + 8 × segment
@@ -76,11 +76,11 @@ arithmetic b op =
     ∷ form (b + 1) /r op (rm word) (reg word)
     ∷ form (b + 2) /r op (reg byte) (rm byte)
     ∷ form (b + 3) /r op (reg word) (rm word)
-    ∷ form 0x83 (/ (eighth b)) op (rm word) ib-sx
+    ∷ form 0x83 (/ (digitOf b)) op (rm word) ib-sx
     ∷ form (b + 4) no op (acc byte) ib
     ∷ form (b + 5) no op (acc word) iw
-    ∷ form 0x80 (/ (eighth b)) op (rm byte) ib
-    ∷ form 0x81 (/ (eighth b)) op (rm word) iw
+    ∷ form 0x80 (/ (digitOf b)) op (rm byte) ib
+    ∷ form 0x81 (/ (digitOf b)) op (rm word) iw
     ∷ []
 
 -- NOT NEG MUL IMUL DIV IDIV

@@ -1,13 +1,16 @@
--- An operand of an instruction as numbers: its kind, its register or base, and its values.
+-- An operand of an instruction as numbers: its type (kind, and register or base), and its values.
 -- Definitions only.
 use Prim.Native.Nat.{ℕ}
 use Rattle.mrc_compiler.specs.declared.encoder.OperandSize.{OperandSize}
 use Rattle.mrc_compiler.specs.Choose.{bySize}
 use Rattle.x86.specs.declared.Operand.{Operand}
 use Rattle.x86.specs.declared.Operand.the-variants as O
-use Rattle.x86.specs.declared.operands.Outline.{Outline}
+use Rattle.x86.specs.declared.operands.OperandType.{OperandType}
 
 -- ---- the kinds
+abbrev pub noOperand : ℕ
+noOperand = 0
+
 abbrev pub aRegister : ℕ
 aRegister = 1
 
@@ -26,18 +29,22 @@ aNear = 5
 abbrev pub aFar : ℕ
 aFar = 6
 
-abbrev pub outline : ℕ → ℕ → Outline
-outline k n = record { kind = k; number = n }
+-- the constant 1 of a shift
+abbrev pub aOne : ℕ
+aOne = 7
 
-abbrev pub outlineOf : Operand → Outline
-outlineOf O.None = outline 0 0
-outlineOf (O.Register n) = outline 1 n
-outlineOf (O.SegmentRegister n) = outline 2 n
-outlineOf (O.Memory b d s) = outline 3 b
-outlineOf (O.Immediate v) = outline 4 0
-outlineOf (O.Near t) = outline 5 0
-outlineOf (O.Far t s) = outline 6 0
-outlineOf O.One = outline 7 0
+abbrev pub operandType : ℕ → ℕ → OperandType
+operandType k n = record { kind = k; number = n }
+
+abbrev pub typeOf : Operand → OperandType
+typeOf O.None = operandType noOperand 0
+typeOf (O.Register n) = operandType aRegister n
+typeOf (O.SegmentRegister n) = operandType aSegment n
+typeOf (O.Memory b d s) = operandType inMemory b
+typeOf (O.Immediate v) = operandType anImmediate 0
+typeOf (O.Near t) = operandType aNear 0
+typeOf (O.Far t s) = operandType aFar 0
+typeOf O.One = operandType aOne 0
 
 -- ---- the values
 abbrev pub displacementIn : Operand → ℕ

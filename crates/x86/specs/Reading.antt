@@ -18,14 +18,14 @@ use Rattle.x86.specs.Instructions.{defaultSegment, inEffect, base, canon
 use Rattle.x86.specs.Forms.{byte, word, Slot, rm, rm-near, mem, mem-far, reg, sreg, sreg-not-cs, acc, low3, bits34, bits34-not-cs, CL, DX, one, moffs, xlat, ib, iw, ib-sx, cb, cw, ptr, nil, Extension, Form, forms}
 use Rattle.x86.specs.Forms as F
 -- what is known of a slot before the bytes behind the opcode are read
-pub use Rattle.forms.specs.declared.About.{About}
-pub use Rattle.forms.specs.Slots.{is, about}
+pub use Rattle.x86_forms.specs.declared.About.{About}
+pub use Rattle.x86_forms.specs.Slots.{is, about}
 -- how it names memory
-pub use Rattle.forms.specs.declared.Place.{Place}
-pub use Rattle.forms.specs.declared.Place.the-variants.{Nowhere as nowhere, ByModRm as by-modrm, ByAddress as by-address, ByBxAl as by-bx-al}
+pub use Rattle.x86_forms.specs.declared.Place.{Place}
+pub use Rattle.x86_forms.specs.declared.Place.the-variants.{Nowhere as nowhere, ByModRm as by-modrm, ByAddress as by-address, ByBxAl as by-bx-al}
 -- which bytes it has
-pub use Rattle.forms.specs.declared.Only.{Only}
-pub use Rattle.forms.specs.declared.Only.the-variants.{
+pub use Rattle.x86_forms.specs.declared.Restriction.{Restriction}
+pub use Rattle.x86_forms.specs.declared.Restriction.the-variants.{
   Any as any,
   MemoryOnly as memory-only,  -- mode 0 to 2
   To3 as to3,  -- the reg field is a segment register's number
@@ -60,15 +60,15 @@ opcodeFits F./r o c = eqb c o
 opcodeFits (F./ n) o c = eqb c o
 opcodeFits F.0A o c = eqb c o
 
-abbrev pub onlyOpcode : Only → ℕ → Bool
-onlyOpcode any c = true
-onlyOpcode memory-only c = true
-onlyOpcode to3 c = true
-onlyOpcode to3-not-cs c = true
-onlyOpcode opcode-not-cs c = isnt (eqb (c / 8) 1)
+abbrev pub allowsOpcode : Restriction → ℕ → Bool
+allowsOpcode any c = true
+allowsOpcode memory-only c = true
+allowsOpcode to3 c = true
+allowsOpcode to3-not-cs c = true
+allowsOpcode opcode-not-cs c = isnt (eqb (c / 8) 1)
 
 abbrev pub hasOpcode : ℕ → Form → Bool
-hasOpcode c f = both (opcodeFits (f .extension) (f .opcode) c) (onlyOpcode (about (f .first) .only) c)
+hasOpcode c f = both (opcodeFits (f .extension) (f .opcode) c) (allowsOpcode (about (f .first) .restriction) c)
 
 abbrev pub secondFits : Extension → ℕ → Bool
 secondFits F.no x = true
@@ -78,15 +78,15 @@ secondFits F./r x = true
 secondFits (F./ n) x = eqb (digit x) n
 secondFits F.0A x = eqb x 0x0A
 
-abbrev pub onlyFits : Only → ℕ → Bool
-onlyFits any x = true
-onlyFits memory-only x = ltb (mode x) 3
-onlyFits to3 x = ltb (digit x) 4
-onlyFits to3-not-cs x = both (ltb (digit x) 4) (isnt (eqb (digit x) 1))
-onlyFits opcode-not-cs x = true
+abbrev pub allowsSecond : Restriction → ℕ → Bool
+allowsSecond any x = true
+allowsSecond memory-only x = ltb (mode x) 3
+allowsSecond to3 x = ltb (digit x) 4
+allowsSecond to3-not-cs x = both (ltb (digit x) 4) (isnt (eqb (digit x) 1))
+allowsSecond opcode-not-cs x = true
 
 abbrev pub fits : ℕ → Form → Bool
-fits x f = both (secondFits (f .extension) x) (both (onlyFits (about (f .first) .only) x) (onlyFits (about (f .second) .only) x))
+fits x f = both (secondFits (f .extension) x) (both (allowsSecond (about (f .first) .restriction) x) (allowsSecond (about (f .second) .restriction) x))
 
 -- ---- the list searched
 abbrev pub put : Bool → Form → List Form → List Form

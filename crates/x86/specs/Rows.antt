@@ -8,10 +8,10 @@ use lib.ListN.{getD}
 use Rattle.mrc_compiler.specs.Choose.{pick}
 use Rattle.x86.specs.Forms.{byte, word, Slot, rm, rm-near, mem, mem-far, reg, sreg, sreg-not-cs, acc, low3, bits34, bits34-not-cs, CL, DX, one, moffs, xlat, ib, iw, ib-sx, cb, cw, ptr, nil, Extension, Form}
 use Rattle.x86.specs.Forms as F
-pub use Rattle.forms.specs.declared.Shape.{Shape}
+pub use Rattle.x86_forms.specs.declared.Shape.{Shape}
 -- an extension, whatever its digit
-pub use Rattle.forms.specs.declared.Class.{Class}
-pub use Rattle.forms.specs.declared.Class.the-variants.{Unused as unused, Plain as plain, PlusRegister as plus-register, PlusSegment as plus-segment, ModRm as modrm, Digit as modrm-digit, Second0A as second-0A}
+pub use Rattle.x86_forms.specs.declared.Class.{Class}
+pub use Rattle.x86_forms.specs.declared.Class.the-variants.{Unused as unused, Plain as plain, PlusRegister as plus-register, PlusSegment as plus-segment, ModRm as modrm, Digit as modrm-digit, Second0A as second-0A}
 
 abbrev pub classOf : Extension → Class
 classOf F.no = plain

@@ -1,29 +1,70 @@
 // An operand of an instruction as numbers: its kind, its register or base, and its values; 0 for what it does not have.
 ghost use mathlib.Core.Path.{_≡_};
-ghost use Rattle.x86.specs.Operands.{outlineOf, displacementIn, valueIn, farSegmentIn, sizeNumber};
+ghost use Rattle.x86.specs.Operands.{typeOf, displacementIn, valueIn, farSegmentIn, sizeNumber};
 use crate::Operand;
 use mrc_compiler::encoder::OperandSize;
 
-// An operand without its values: its kind (0 none, 1 register, 2 segment register, 3 memory, 4 immediate, 5 near target, 6 far target, 7 the
-// constant 1), and its register's number or base.
-pub struct Outline {
+// ---- The kinds of operand.
+pub const NO_OPERAND: u8 = 0;
+
+pub const REGISTER: u8 = 1;
+
+pub const SEGMENT_REGISTER: u8 = 2;
+
+pub const MEMORY: u8 = 3;
+
+pub const IMMEDIATE: u8 = 4;
+
+pub const NEAR: u8 = 5;
+
+pub const FAR: u8 = 6;
+
+// The constant 1 of a shift.
+pub const ONE: u8 = 7;
+
+// An operand without its values: its kind, and its register's number or base.
+pub struct OperandType {
     pub kind: u8,
     pub number: u8,
 }
 
 // An operand without its values.
-pub fn outline_of(oper: Operand) -> Outline
-    ensures { λ r. ⌜ r ≡ outlineOf oper ⌝ }
+pub fn type_of(oper: Operand) -> OperandType
+    ensures { λ r. ⌜ r ≡ typeOf oper ⌝ }
 {
     match oper {
-        Operand::None => Outline { kind: 0, number: 0 },
-        Operand::Register(n) => Outline { kind: 1, number: n },
-        Operand::SegmentRegister(n) => Outline { kind: 2, number: n },
-        Operand::Memory(b, _, _) => Outline { kind: 3, number: b },
-        Operand::Immediate(_) => Outline { kind: 4, number: 0 },
-        Operand::Near(_) => Outline { kind: 5, number: 0 },
-        Operand::Far(_, _) => Outline { kind: 6, number: 0 },
-        Operand::One => Outline { kind: 7, number: 0 },
+        Operand::None => OperandType {
+            kind: NO_OPERAND,
+            number: 0,
+        },
+        Operand::Register(n) => OperandType {
+            kind: REGISTER,
+            number: n,
+        },
+        Operand::SegmentRegister(n) => OperandType {
+            kind: SEGMENT_REGISTER,
+            number: n,
+        },
+        Operand::Memory(b, _, _) => OperandType {
+            kind: MEMORY,
+            number: b,
+        },
+        Operand::Immediate(_) => OperandType {
+            kind: IMMEDIATE,
+            number: 0,
+        },
+        Operand::Near(_) => OperandType {
+            kind: NEAR,
+            number: 0,
+        },
+        Operand::Far(_, _) => OperandType {
+            kind: FAR,
+            number: 0,
+        },
+        Operand::One => OperandType {
+            kind: ONE,
+            number: 0,
+        },
     }
 }
 

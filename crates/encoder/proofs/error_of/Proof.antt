@@ -1,7 +1,7 @@
 use mir.Syntax.{w32}
 use mir.ValLaws.{toZ-ofZ}
 use borrow.Author.Needs.{needs}
-use Rattle.answers.specs.Records.{dst}
+use Rattle.encode_spec.specs.Records.{dst}
 use Rattle.encoder.proofs.error_of.Statement.{statement}
 use Rattle.encoder.proofs.error_of.Tie as tie
 

@@ -1,6 +1,6 @@
 use borrow.Author.Needs.{needs}
 use mathlib.Core.Path.{sym, _∙_}
-use Rattle.listing.specs.Entries.{isWhole}
+use Rattle.list_spec.specs.Entries.{isWhole}
 use Rattle.lister.proofs.is_whole.Statement.{statement}
 use Rattle.lister.proofs.is_whole.Tie as tie
 

@@ -5,8 +5,8 @@ use Prim.Native.Nat.{_≤_, _<_, _-_, _*_}
 use native.Mathlib.Omega.{arith}
 use lib.ListN.{length, drop, length-set}
 use borrow.Author.Needs.{needs}
-use Rattle.listing.specs.Entries.{candidateKey}
-use Rattle.entries.proofs.Listed.{entered}
+use Rattle.list_spec.specs.Entries.{candidateKey}
+use Rattle.list_entries.proofs.Listed.{entered}
 use Rattle.lister.proofs.Runs.{Enough, Filled, fill-again, fill-done, key-again}
 use Rattle.lister.proofs.list_instruction.Statement.{statement}
 use Rattle.lister.proofs.list_instruction.Tie as tie

@@ -1,6 +1,6 @@
 use mathlib.Core.Path.{sym, _∙_}
-use Rattle.rows.specs.Rows.{foundAt}
-use Rattle.rows.proofs.Agree.{settles, tests}
+use Rattle.read_table.specs.Rows.{foundAt}
+use Rattle.read_table.proofs.Agree.{settles, tests}
 use Rattle.reader.specs.ByRow.{readShape, decodedShape}
 use borrow.Author.Needs.{needs}
 use Rattle.reader.proofs.read_shape.Statement.{statement}

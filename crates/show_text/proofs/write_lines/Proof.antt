@@ -1,4 +1,4 @@
-use Rattle.loader.proofs.Laws.{ran, within-seven, lent-length}
+use Rattle.show_load.proofs.Laws.{ran, within-seven, lent-length}
 use Rattle.show_text.proofs.Laws.{Lines, lines-start, lines-in, line-short, lines-more}
 use borrow.Author.Needs.{needs}
 use denote.Ref.{now}

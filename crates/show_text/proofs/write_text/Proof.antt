@@ -1,4 +1,4 @@
-use Rattle.loader.proofs.Laws.{accepted-image}
+use Rattle.show_load.proofs.Laws.{accepted-image}
 use Rattle.show_text.specs.Text.{listed, sliceAfter}
 use Rattle.show_text.proofs.Laws.{refused-length, refused-holds}
 use Rattle.show_text.proofs.Shown.{text-is}

@@ -17,4 +17,4 @@ operand-head-spec =
     (λ c. search needs)
     (λ c. search needs)
     (λ c. search needs)
-    (λ c. rw (c .before .before .before .outline-of .ensures, c .before .before .segment-in .ensures)))
+    (λ c. rw (c .before .before .before .type-of .ensures, c .before .before .segment-in .ensures)))

@@ -1,4 +1,4 @@
-use Rattle.report.proofs.Laws.{six}
+use Rattle.foreign_report.proofs.Laws.{six}
 use denote.Ref.{now}
 use borrow.Author.Needs.{needs}
 use Rattle.foreign.proofs.read.write_read.Statement.{statement}

@@ -1,0 +1,262 @@
+-- The bench sheet's encoder rows (document 01) and those of document 02's Nos. 1, 2 and 4, at every offset where the row names none. P marks the rows that 01 marks.
+-- Assumes nothing.
+use mathlib.Core.Path.{_≡_, refl}
+use mathlib.Core.Bool.{true}
+use mathlib.Core.List.{[], _∷_}
+use Prim.Native.Nat.{ℕ}
+use lib.IntN.{ℤ, pos, negsuc}
+use Rattle.mrc_compiler.specs.declared.ast.Span.{Span}
+use Rattle.mrc_compiler.specs.declared.ast.OptionDataSize.{OptionDataSize}
+use Rattle.mrc_compiler.specs.declared.ast.OptionDataSize.the-variants as OD
+use Rattle.mrc_compiler.specs.declared.ast.DataSize.the-variants as D
+use Rattle.mrc_compiler.specs.declared.ast.OptionSegment.the-variants as OG
+use Rattle.mrc_compiler.specs.declared.encoder.EncodeError.the-variants as E
+use Rattle.mrc_compiler.specs.declared.encoder.InstructionData.{InstructionData}
+use Rattle.mrc_compiler.specs.declared.encoder.JumpKind.{JumpKind}
+use Rattle.mrc_compiler.specs.declared.encoder.JumpKind.the-variants as J
+use Rattle.mrc_compiler.specs.declared.encoder.OperandData.{OperandData}
+use Rattle.mrc_compiler.specs.declared.encoder.OperandSize.the-variants as S
+use Rattle.mrc_compiler.specs.declared.operations.Operation.{Operation}
+use Rattle.mrc_compiler.specs.declared.operations.Operation.the-variants as Op
+use Rattle.mrc_compiler.specs.Operations.{numberOf}
+use Rattle.mrc_compiler.specs.Builders.{immediateOperand, farOperand, registerOperand, directOperand, indirectOperand, noOperands, oneOperand, twoOperands}
+use Rattle.x86.specs.Forms.{forms}
+use Rattle.x86.specs.Reading.{prefix}
+use Rattle.encode_spec.specs.WellFormed.{wellFormed}
+use Rattle.encode_groups.specs.Grouping.{groupedOf}
+use Rattle.encode_spec.specs.Choice.{formsOf}
+use Rattle.encode_spec.specs.Layout.{layout}
+use Rattle.encode_spec.specs.Questions.{questions}
+use Rattle.encode_spec.specs.Answer.{bytes, refused, answer}
+
+-- spans that tell the instruction and its operands apart
+abbrev whole : Span
+whole = record { start = 1; end = 9 }
+
+abbrev one : Span
+one = record { start = 2; end = 4 }
+
+abbrev two : Span
+two = record { start = 5; end = 8 }
+
+-- records
+abbrev ax : OperandData
+ax = registerOperand one 0 S.Word
+
+abbrev al : OperandData
+al = registerOperand one 0 S.Byte
+
+abbrev immediate : ℤ → OperandData
+immediate z = immediateOperand two z
+
+abbrev withOne : Operation → OperandData → InstructionData
+withOne op a = oneOperand whole op a
+
+abbrev withTwo : Operation → OperandData → OperandData → InstructionData
+withTwo op a b = twoOperands whole op a b
+
+abbrev to : Operation → ℤ → InstructionData
+to op z = withOne op (immediateOperand one z)
+
+-- an operand with this kind of jump
+abbrev ofKind : JumpKind → OperandData → OperandData
+ofKind j o = record {
+  span = o .span;
+  kind = o .kind;
+  size = o .size;
+  «segment_prefix» = o .«segment_prefix»;
+  displacement = o .displacement;
+  «displacement_size» = o .«displacement_size»;
+  mode = o .mode;
+  rm = o .rm;
+  imm = o .imm;
+  «jmp_kind» = j;
+}
+
+abbrev targetOf : JumpKind → ℤ → OperandData
+targetOf j z = ofKind j (immediateOperand one z)
+
+-- [BX] of this size
+abbrev bx : Span → OptionDataSize → OperandData
+bx s z = indirectOperand s 7 (pos 0) z OG.None
+
+abbrev through : JumpKind → OptionDataSize → OperandData
+through j z = ofKind j (bx one z)
+
+-- RET with one operand
+abbrev return : OperandData → InstructionData
+return a = withOne Op.RET a
+
+pub record Rows (off : ℕ) : Type 0 where
+  pub mov-ax-4660 : answer (withTwo Op.MOV ax (immediate (pos 4660))) off ≡ bytes (0xB8 ∷ 0x34 ∷ 0x12 ∷ [])  -- P
+  pub aam : answer (noOperands whole Op.AAM) off ≡ bytes (0xD4 ∷ 0x0A ∷ [])  -- P
+  pub test-al-5 : answer (withTwo Op.TEST (registerOperand one 0 S.Byte) (immediate (pos 5))) off ≡ bytes (0xA8 ∷ 0x05 ∷ [])  -- P
+  pub add-ax-5 : answer (withTwo Op.ADD ax (immediate (pos 5))) off ≡ bytes (0x83 ∷ 0xC0 ∷ 0x05 ∷ [])  -- P
+  pub add-ax-minus-1 : answer (withTwo Op.ADD ax (immediate (negsuc 0))) off ≡ bytes (0x83 ∷ 0xC0 ∷ 0xFF ∷ [])  -- P, by No. 2
+  pub add-bx-200 : answer (withTwo Op.ADD (registerOperand one 3 S.Word) (immediate (pos 200))) off ≡ bytes (0x81 ∷ 0xC3 ∷ 0xC8 ∷ 0x00 ∷ [])
+  pub add-word-bx-5 : answer (withTwo Op.ADD (indirectOperand one 7 (pos 0) (OD.Some D.Word) OG.None) (immediate (pos 5))) off ≡ bytes (0x83 ∷ 0x07 ∷ 0x05 ∷ [])  -- P
+  pub xchg-cl-al : answer (withTwo Op.XCHG (registerOperand one 1 S.Byte) (registerOperand two 0 S.Byte)) off ≡ bytes (0x86 ∷ 0xC8 ∷ [])  -- P
+  pub xchg-cx-cx : answer (withTwo Op.XCHG (registerOperand one 1 S.Word) (registerOperand two 1 S.Word)) off ≡ bytes (0x87 ∷ 0xC9 ∷ [])  -- P
+  pub je-0-129 : answer (to Op.JE (pos 129)) 0 ≡ bytes (0x74 ∷ 0x7F ∷ [])  -- P
+  pub je-0-130 : answer (to Op.JE (pos 130)) 0 ≡ refused (E.RelativeJumpOutOfRange one S.Byte true (pos 128))  -- P
+  pub je-256-130 : answer (to Op.JE (pos 130)) 256 ≡ bytes (0x74 ∷ 0x80 ∷ [])  -- P
+  pub je-256-129 : answer (to Op.JE (pos 129)) 256 ≡ refused (E.RelativeJumpOutOfRange one S.Byte true (negsuc 128))  -- P
+  pub je-65534-65536 : answer (to Op.JE (pos 65536)) 65534 ≡ bytes (0x74 ∷ 0x00 ∷ [])  -- P
+  pub je-65534-0 : answer (to Op.JE (pos 0)) 65534 ≡ refused (E.RelativeJumpOutOfRange one S.Byte true (negsuc 65535))  -- P
+  pub jmp-65533-0 : answer (to Op.JMP (pos 0)) 65533 ≡ bytes (0xE9 ∷ 0x00 ∷ 0x00 ∷ [])  -- P
+  pub mov-al-bp : answer (withTwo Op.MOV (registerOperand one 0 S.Byte) (indirectOperand two 6 (pos 0) OD.None OG.None)) off ≡ bytes (0x8A ∷ 0x46 ∷ 0x00 ∷ [])  -- P
+  pub mov-byte-bx-255 : answer (withTwo Op.MOV (indirectOperand one 7 (pos 0) (OD.Some D.Byte) OG.None) (immediate (pos 255))) off ≡ bytes (0xC6 ∷ 0x07 ∷ 0xFF ∷ [])
+  pub mov-byte-bx-300 : answer (withTwo Op.MOV (indirectOperand one 7 (pos 0) (OD.Some D.Byte) OG.None) (immediate (pos 300))) off ≡ refused (E.ImmediateOutOfRange two (pos 300) (negsuc 127) (pos 255))
+  -- No. 2: 83 by the value as written, in a Word alone
+  pub add-ax-65535 : answer (withTwo Op.ADD ax (immediate (pos 65535))) off ≡ bytes (0x05 ∷ 0xFF ∷ 0xFF ∷ [])
+  pub add-ax-127 : answer (withTwo Op.ADD ax (immediate (pos 127))) off ≡ bytes (0x83 ∷ 0xC0 ∷ 0x7F ∷ [])
+  pub add-ax-128 : answer (withTwo Op.ADD ax (immediate (pos 128))) off ≡ bytes (0x05 ∷ 0x80 ∷ 0x00 ∷ [])
+  pub add-bx-minus-128 : answer (withTwo Op.ADD (registerOperand one 3 S.Word) (immediate (negsuc 127))) off ≡ bytes (0x83 ∷ 0xC3 ∷ 0x80 ∷ [])
+  pub add-bx-minus-129 : answer (withTwo Op.ADD (registerOperand one 3 S.Word) (immediate (negsuc 128))) off ≡ bytes (0x81 ∷ 0xC3 ∷ 0x7F ∷ 0xFF ∷ [])
+  pub add-word-bx-minus-1 : answer (withTwo Op.ADD (bx one (OD.Some D.Word)) (immediate (negsuc 0))) off ≡ bytes (0x83 ∷ 0x07 ∷ 0xFF ∷ [])
+  pub add-word-bx-minus-129 : answer (withTwo Op.ADD (bx one (OD.Some D.Word)) (immediate (negsuc 128))) off ≡ bytes (0x81 ∷ 0x07 ∷ 0x7F ∷ 0xFF ∷ [])
+  pub add-al-minus-1 : answer (withTwo Op.ADD (registerOperand one 0 S.Byte) (immediate (negsuc 0))) off ≡ bytes (0x04 ∷ 0xFF ∷ [])
+  pub add-byte-bx-minus-1 : answer (withTwo Op.ADD (bx one (OD.Some D.Byte)) (immediate (negsuc 0))) off ≡ bytes (0x80 ∷ 0x07 ∷ 0xFF ∷ [])
+  pub mov-ax-minus-1 : answer (withTwo Op.MOV ax (immediate (negsuc 0))) off ≡ bytes (0xB8 ∷ 0xFF ∷ 0xFF ∷ [])
+  -- No. 4: one range for data immediates; the others keep theirs
+  pub mov-al-minus-1 : answer (withTwo Op.MOV al (immediate (negsuc 0))) off ≡ bytes (0xB0 ∷ 0xFF ∷ [])
+  pub mov-al-minus-128 : answer (withTwo Op.MOV al (immediate (negsuc 127))) off ≡ bytes (0xB0 ∷ 0x80 ∷ [])
+  pub mov-al-minus-129 : answer (withTwo Op.MOV al (immediate (negsuc 128))) off ≡ refused (E.ImmediateOutOfRange two (negsuc 128) (negsuc 127) (pos 255))
+  pub mov-al-256 : answer (withTwo Op.MOV al (immediate (pos 256))) off ≡ refused (E.ImmediateOutOfRange two (pos 256) (negsuc 127) (pos 255))
+  pub mov-ax-minus-32768 : answer (withTwo Op.MOV ax (immediate (negsuc 32767))) off ≡ bytes (0xB8 ∷ 0x00 ∷ 0x80 ∷ [])
+  pub mov-ax-minus-32769 : answer (withTwo Op.MOV ax (immediate (negsuc 32768))) off ≡ refused (E.ImmediateOutOfRange two (negsuc 32768) (negsuc 32767) (pos 65535))
+  pub add-ax-minus-129 : answer (withTwo Op.ADD ax (immediate (negsuc 128))) off ≡ bytes (0x05 ∷ 0x7F ∷ 0xFF ∷ [])
+  pub add-ax-70000 : answer (withTwo Op.ADD ax (immediate (pos 70000))) off ≡ refused (E.ImmediateOutOfRange two (pos 70000) (negsuc 32767) (pos 65535))
+  pub test-al-minus-1 : answer (withTwo Op.TEST al (immediate (negsuc 0))) off ≡ bytes (0xA8 ∷ 0xFF ∷ [])
+  pub test-bl-minus-129 : answer (withTwo Op.TEST (registerOperand one 3 S.Byte) (immediate (negsuc 128))) off ≡ refused (E.ImmediateOutOfRange two (negsuc 128) (negsuc 127) (pos 255))
+  pub int-minus-1 : answer (to Op.INT (negsuc 0)) off ≡ refused (E.ImmediateOutOfRange one (negsuc 0) (pos 0) (pos 255))
+  pub in-minus-1 : answer (withTwo Op.IN al (immediate (negsuc 0))) off ≡ refused (E.ImmediateOutOfRange two (negsuc 0) (pos 0) (pos 255))
+  pub out-minus-1 : answer (withTwo Op.OUT (immediateOperand one (negsuc 0)) (registerOperand two 0 S.Byte)) off ≡ refused (E.ImmediateOutOfRange one (negsuc 0) (pos 0) (pos 255))
+  pub mov-al-at-minus-1 : answer (withTwo Op.MOV al (directOperand two (negsuc 0) OD.None OG.None)) off ≡ refused (E.ImmediateOutOfRange two (negsuc 0) (pos 0) (pos 65535))
+  pub call-minus-1 : answer (to Op.CALL (negsuc 0)) off ≡ refused (E.ImmediateOutOfRange one (negsuc 0) (pos 0) (pos 65535))
+  pub jmp-far-minus-1 : answer (withOne Op.JMP (farOperand one (pos 0) (negsuc 0))) off ≡ refused (E.ImmediateOutOfRange one (negsuc 0) (pos 0) (pos 65535))
+  pub shl-minus-1 : answer (withTwo Op.SHL al (immediate (negsuc 0))) off ≡ refused (E.InvalidOperands whole)
+  -- No. 1
+  pub test-ax-bx : answer (withTwo Op.TEST ax (registerOperand two 3 S.Word)) off ≡ bytes (0x85 ∷ 0xD8 ∷ [])
+  pub test-bx-ax : answer (withTwo Op.TEST (registerOperand one 3 S.Word) (registerOperand two 0 S.Word)) off ≡ bytes (0x85 ∷ 0xC3 ∷ [])
+  pub test-bx-cl : answer (withTwo Op.TEST (bx one OD.None) (registerOperand two 1 S.Byte)) off ≡ bytes (0x84 ∷ 0x0F ∷ [])
+  pub test-cl-bx : answer (withTwo Op.TEST (registerOperand one 1 S.Byte) (bx two OD.None)) off ≡ bytes (0x84 ∷ 0x0F ∷ [])
+  pub test-ax-5 : answer (withTwo Op.TEST ax (immediate (pos 5))) off ≡ bytes (0xA9 ∷ 0x05 ∷ 0x00 ∷ [])
+  pub test-bl-255 : answer (withTwo Op.TEST (registerOperand one 3 S.Byte) (immediate (pos 255))) off ≡ bytes (0xF6 ∷ 0xC3 ∷ 0xFF ∷ [])
+  pub test-bl-300 : answer (withTwo Op.TEST (registerOperand one 3 S.Byte) (immediate (pos 300))) off ≡ refused (E.ImmediateOutOfRange two (pos 300) (negsuc 127) (pos 255))
+  pub test-word-bx : answer (withTwo Op.TEST (bx one (OD.Some D.Word)) (immediate (pos 65535))) off ≡ bytes (0xF7 ∷ 0x07 ∷ 0xFF ∷ 0xFF ∷ [])
+  pub test-word-minus-1 : answer (withTwo Op.TEST (bx one (OD.Some D.Word)) (immediate (negsuc 0))) off ≡ bytes (0xF7 ∷ 0x07 ∷ 0xFF ∷ 0xFF ∷ [])
+  pub test-5-al : answer (withTwo Op.TEST (immediateOperand one (pos 5)) (registerOperand two 0 S.Byte)) off ≡ refused (E.InvalidOperands whole)
+  pub push-word-bx : answer (withOne Op.PUSH (bx one (OD.Some D.Word))) off ≡ bytes (0xFF ∷ 0x37 ∷ [])
+  pub push-byte-bx : answer (withOne Op.PUSH (bx one (OD.Some D.Byte))) off ≡ refused (E.InvalidOperands one)
+  pub push-unstated-bx : answer (withOne Op.PUSH (bx one OD.None)) off ≡ refused (E.InvalidOperands one)
+  pub pop-word-bx : answer (withOne Op.POP (bx one (OD.Some D.Word))) off ≡ bytes (0x8F ∷ 0x07 ∷ [])
+  pub pop-byte-bx : answer (withOne Op.POP (bx one (OD.Some D.Byte))) off ≡ refused (E.InvalidOperandSize one)
+  pub ret : answer (noOperands whole Op.RET) off ≡ bytes (0xC3 ∷ [])
+  pub ret-0 : answer (return (immediateOperand one (pos 0))) off ≡ bytes (0xC2 ∷ 0x00 ∷ 0x00 ∷ [])
+  pub ret-65535 : answer (return (targetOf J.Far (pos 65535))) off ≡ bytes (0xC2 ∷ 0xFF ∷ 0xFF ∷ [])
+  pub ret-two : answer (withTwo Op.RET (immediateOperand one (pos 4)) ax) off ≡ bytes (0xC2 ∷ 0x04 ∷ 0x00 ∷ [])
+  pub ret-minus-1 : answer (return (immediateOperand one (negsuc 0))) off ≡ refused (E.ImmediateOutOfRange one (negsuc 0) (pos 0) (pos 65535))
+  pub ret-ax : answer (return ax) off ≡ refused (E.InvalidOperands whole)
+  pub call-far-bx : answer (withOne Op.CALL (through J.Far OD.None)) off ≡ bytes (0xFF ∷ 0x1F ∷ [])
+  pub call-far-word-bx : answer (withOne Op.CALL (through J.Far (OD.Some D.Word))) off ≡ bytes (0xFF ∷ 0x1F ∷ [])
+  pub call-far-byte-bx : answer (withOne Op.CALL (through J.Far (OD.Some D.Byte))) off ≡ refused (E.InvalidOperands whole)
+  pub call-near-bx : answer (withOne Op.CALL (through J.Near OD.None)) off ≡ bytes (0xFF ∷ 0x17 ∷ [])
+  pub jmp-far-bx : answer (withOne Op.JMP (through J.Far OD.None)) off ≡ refused (E.InvalidOperands one)
+  pub jmp-short : answer (withOne Op.JMP (targetOf J.Short (pos 129))) 0 ≡ bytes (0xEB ∷ 0x7F ∷ [])
+  pub jmp-short-130 : answer (withOne Op.JMP (targetOf J.Short (pos 130))) 0 ≡ refused (E.RelativeJumpOutOfRange one S.Byte true (pos 128))
+  pub jmp-short-back : answer (withOne Op.JMP (targetOf J.Short (pos 130))) 256 ≡ bytes (0xEB ∷ 0x80 ∷ [])
+  pub jmp-short-wraps-not : answer (withOne Op.JMP (targetOf J.Short (pos 0))) 65534 ≡ refused (E.RelativeJumpOutOfRange one S.Byte true (negsuc 65535))
+  pub jmp-short-minus-1 : answer (withOne Op.JMP (targetOf J.Short (negsuc 0))) off ≡ refused (E.ImmediateOutOfRange one (negsuc 0) (pos 0) (pos 65535))
+  pub jmp-short-65536 : answer (withOne Op.JMP (targetOf J.Short (pos 65536))) off ≡ refused (E.ImmediateOutOfRange one (pos 65536) (pos 0) (pos 65535))
+  pub jmp-no-kind : answer (to Op.JMP (pos 5)) 0 ≡ bytes (0xE9 ∷ 0x02 ∷ 0x00 ∷ [])
+  pub wait : answer (noOperands whole Op.WAIT) off ≡ bytes (0x9B ∷ [])
+  pub int1 : answer (noOperands whole Op.INT1) off ≡ refused (E.NotSupported whole)
+  pub esc : answer (noOperands whole Op.ESC) off ≡ refused (E.NotSupported whole)
+
+rows : (off : ℕ) → Rows off
+unfolding answer questions wellFormed prefix groupedOf formsOf forms numberOf layout
+rows off = record {
+  mov-ax-4660 = refl;
+  aam = refl;
+  test-al-5 = refl;
+  add-ax-5 = refl;
+  add-ax-minus-1 = refl;
+  add-bx-200 = refl;
+  add-word-bx-5 = refl;
+  xchg-cl-al = refl;
+  xchg-cx-cx = refl;
+  je-0-129 = refl;
+  je-0-130 = refl;
+  je-256-130 = refl;
+  je-256-129 = refl;
+  je-65534-65536 = refl;
+  je-65534-0 = refl;
+  jmp-65533-0 = refl;
+  mov-al-bp = refl;
+  mov-byte-bx-255 = refl;
+  mov-byte-bx-300 = refl;
+  add-ax-65535 = refl;
+  add-ax-127 = refl;
+  add-ax-128 = refl;
+  add-bx-minus-128 = refl;
+  add-bx-minus-129 = refl;
+  add-word-bx-minus-1 = refl;
+  add-word-bx-minus-129 = refl;
+  add-al-minus-1 = refl;
+  add-byte-bx-minus-1 = refl;
+  mov-ax-minus-1 = refl;
+  mov-al-minus-1 = refl;
+  mov-al-minus-128 = refl;
+  mov-al-minus-129 = refl;
+  mov-al-256 = refl;
+  mov-ax-minus-32768 = refl;
+  mov-ax-minus-32769 = refl;
+  add-ax-minus-129 = refl;
+  add-ax-70000 = refl;
+  test-al-minus-1 = refl;
+  test-bl-minus-129 = refl;
+  int-minus-1 = refl;
+  in-minus-1 = refl;
+  out-minus-1 = refl;
+  mov-al-at-minus-1 = refl;
+  call-minus-1 = refl;
+  jmp-far-minus-1 = refl;
+  shl-minus-1 = refl;
+  test-ax-bx = refl;
+  test-bx-ax = refl;
+  test-bx-cl = refl;
+  test-cl-bx = refl;
+  test-ax-5 = refl;
+  test-bl-255 = refl;
+  test-bl-300 = refl;
+  test-word-bx = refl;
+  test-word-minus-1 = refl;
+  test-5-al = refl;
+  push-word-bx = refl;
+  push-byte-bx = refl;
+  push-unstated-bx = refl;
+  pop-word-bx = refl;
+  pop-byte-bx = refl;
+  ret = refl;
+  ret-0 = refl;
+  ret-65535 = refl;
+  ret-two = refl;
+  ret-minus-1 = refl;
+  ret-ax = refl;
+  call-far-bx = refl;
+  call-far-word-bx = refl;
+  call-far-byte-bx = refl;
+  call-near-bx = refl;
+  jmp-far-bx = refl;
+  jmp-short = refl;
+  jmp-short-130 = refl;
+  jmp-short-back = refl;
+  jmp-short-wraps-not = refl;
+  jmp-short-minus-1 = refl;
+  jmp-short-65536 = refl;
+  jmp-no-kind = refl;
+  wait = refl;
+  int1 = refl;
+  esc = refl;
+}

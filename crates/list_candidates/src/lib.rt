@@ -1,0 +1,193 @@
+// The twelve candidates of an instruction's listing, each as a run of bytes.
+ghost use mathlib.Core.Path.{_≡_};
+ghost use Prim.Native.Nat.{_%_, _/_, _≤_};
+ghost use Rattle.encode_spec.specs.Layout.{wordBytes, prefixBytes};
+ghost use Rattle.encode_run.specs.Run.{emptyRun, appended};
+ghost use Rattle.list_spec.specs.Operands.{prefixIn, prefixOf, displacementOf, valueOf, farSegmentOf};
+ghost use Rattle.list_spec.specs.Candidates.{byteOf, displacementBytes, secondBytes, distance, tailBytes, stringOf, candidate};
+use encode_run::ByteRun;
+use list_spec::Second;
+use list_spec::Start;
+use list_spec::Tail;
+use mrc_compiler::encoder::segment_prefix_for;
+use x86::Instruction;
+use x86::Operand;
+use x86::operands::displacement_in;
+use x86::operands::far_segment_in;
+use x86::operands::value_in;
+
+// ---- the numbers of an instruction
+
+// The prefix of the segment that memory is in; 0 for another operand.
+pub fn prefix_in(oper: Operand) -> u8
+    ensures { λ r. ⌜ r ≡ prefixIn oper ⌝ }
+{
+    match oper {
+        Operand::None => 0,
+        Operand::Register(_) => 0,
+        Operand::SegmentRegister(_) => 0,
+        Operand::Memory(_, _, s) => segment_prefix_for(s),
+        Operand::Immediate(_) => 0,
+        Operand::Near(_) => 0,
+        Operand::Far(_, _) => 0,
+        Operand::One => 0,
+    }
+}
+
+// The sum is the number of the operand that has one.
+pub fn prefix_of(insn: Instruction) -> u8
+    ensures { λ r. ⌜ r ≡ prefixOf insn ⌝ }
+{
+    let a = insn.first;
+    let b = insn.second;
+    std::num::wrapping_add_u8(prefix_in(a), prefix_in(b))
+}
+
+fn displacement_of(insn: Instruction) -> u16
+    ensures { λ r. ⌜ r ≡ displacementOf insn ⌝ }
+{
+    let a = insn.first;
+    let b = insn.second;
+    std::num::wrapping_add_u16(displacement_in(a), displacement_in(b))
+}
+
+fn value_of(insn: Instruction) -> u16
+    ensures { λ r. ⌜ r ≡ valueOf insn ⌝ }
+{
+    let a = insn.first;
+    let b = insn.second;
+    std::num::wrapping_add_u16(value_in(a), value_in(b))
+}
+
+fn far_segment_of(insn: Instruction) -> u16
+    ensures { λ r. ⌜ r ≡ farSegmentOf insn ⌝ }
+{
+    let a = insn.first;
+    let b = insn.second;
+    std::num::wrapping_add_u16(far_segment_in(a), far_segment_in(b))
+}
+
+// ---- the bytes
+
+// A word, low byte first.
+fn push_word(run: ByteRun, value: u16) -> ByteRun
+    ensures { λ r. ⌜ r ≡ appended run (wordBytes value) ⌝ }
+{
+    let first = encode_run::push(run, (value % 256) as u8);
+    encode_run::push(first, (value / 256) as u8)
+}
+
+// The prefix of a segment; 0 means none.
+fn push_prefix(run: ByteRun, prefix: u8) -> ByteRun
+    ensures { λ r. ⌜ r ≡ appended run (prefixBytes prefix) ⌝ }
+{
+    if prefix == 0 {
+        run
+    } else {
+        encode_run::push(run, prefix)
+    }
+}
+
+// A displacement of n bytes.
+fn push_displacement(run: ByteRun, n: u8, displacement: u16) -> ByteRun
+    ensures { λ r. ⌜ r ≡ appended run (displacementBytes n displacement) ⌝ }
+{
+    if n == 0 {
+        return run;
+    }
+    if n == 1 {
+        return encode_run::push(run, (displacement % 256) as u8);
+    }
+    push_word(run, displacement)
+}
+
+// The second byte, with the displacement where it is ModRM.
+fn push_second(run: ByteRun, second: Second, displacement: u16) -> ByteRun
+    ensures { λ r. ⌜ r ≡ appended run (secondBytes second displacement) ⌝ }
+{
+    match second {
+        Second::None => run,
+        Second::ModRm(x) => {
+            let next = encode_run::push(run, x);
+            push_displacement(next, x86::displacement_length(x / 64, x % 8), displacement)
+        }
+        Second::Fixed(x) => encode_run::push(run, x),
+    }
+}
+
+// The distance to the target from the end of n bytes at an offset.
+fn distance_from(target: u16, offset: u16, n: u16) -> u16
+    requires { ⌜ n ≤ 3 ⌝ }
+    ensures { λ r. ⌜ r ≡ distance target offset n ⌝ }
+{
+    std::num::wrapping_sub_u16(target, std::num::wrapping_add_u16(offset, n))
+}
+
+// What the instruction ends with.
+fn push_tail(
+    run: ByteRun,
+    tail: Tail,
+    offset: u16,
+    displacement: u16,
+    value: u16,
+    segment: u16,
+) -> ByteRun
+    ensures { λ r. ⌜ r ≡ appended run (tailBytes tail offset displacement value segment) ⌝ }
+{
+    match tail {
+        Tail::None => run,
+        Tail::Byte => encode_run::push(run, (value % 256) as u8),
+        Tail::Word => push_word(run, value),
+        Tail::Near8 => {
+            let d = distance_from(value, offset, 2);
+            encode_run::push(run, (d % 256) as u8)
+        }
+        Tail::Near16 => {
+            let d = distance_from(value, offset, 3);
+            push_word(run, d)
+        }
+        Tail::Far => {
+            let next = push_word(run, value);
+            push_word(next, segment)
+        }
+        Tail::Address => push_word(run, displacement),
+    }
+}
+
+fn push_opcode(run: ByteRun, opcode: u8) -> ByteRun
+    ensures { λ r. ⌜ r ≡ appended run (byteOf opcode) ⌝ }
+{
+    encode_run::push(run, opcode)
+}
+
+// The string of an instruction with a prefix (0: none) and a start.
+fn string_run(offset: u16, prefix: u8, start: Start, insn: Instruction) -> ByteRun
+    ensures { λ r. ⌜ r ≡ appended emptyRun (stringOf offset prefix start insn) ⌝ }
+{
+    let opcode = start.opcode;
+    let second = start.second;
+    let tail = start.tail;
+    let displacement = displacement_of(insn);
+    let prefixed = push_prefix(encode_run::empty_run(), prefix);
+    let coded = push_opcode(prefixed, opcode);
+    let moded = push_second(coded, second, displacement);
+    push_tail(
+        moded,
+        tail,
+        offset,
+        displacement,
+        value_of(insn),
+        far_segment_of(insn),
+    )
+}
+
+// Candidate i, below 12.
+pub fn candidate_run(offset: u16, insn: Instruction, i: u8) -> ByteRun
+    ensures { λ r. ⌜ r ≡ appended emptyRun (candidate offset insn i) ⌝ }
+{
+    let start = list_starts::start_of(insn, i / 3 % 2, i % 3);
+    if i < 6 {
+        return string_run(offset, 0, start, insn);
+    }
+    string_run(offset, prefix_of(insn), start, insn)
+}

@@ -1,6 +1,0 @@
-use borrow.Author.Needs.{needs}
-use Rattle.rows.proofs.found_of.Statement.{statement}
-use Rattle.rows.proofs.found_of.Tie as tie
-
-pub found-of-spec : {M : Type 1} → statement M
-found-of-spec = tie.close (tie.spec (λ c κs. search needs) (λ c κs. search needs) (λ c. rw (c .operation-at .ensures, c .before .line-of .ensures .0)))

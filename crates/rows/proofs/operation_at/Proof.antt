@@ -1,6 +1,0 @@
-use borrow.Author.Needs.{needs}
-use Rattle.rows.proofs.operation_at.Statement.{statement}
-use Rattle.rows.proofs.operation_at.Tie as tie
-
-pub operation-at-spec : {M : Type 1} → statement M
-operation-at-spec = tie.close (tie.spec (λ c. search needs) (λ c κs. search needs) (λ c. c .numbered .ensures))

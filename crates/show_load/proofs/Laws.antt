@@ -1,0 +1,278 @@
+-- The laws that the loader's loops rest on: the step over a record, and what stands at the front of a lent slice.
+-- Assumes nothing.
+use mathlib.Core.Path.{_≡_, refl, _∙_}
+use mathlib.Core.Bool.{Bool, true, false}
+use mathlib.Core.List.{List, [], _∷_, _++_, append-assoc, append-nil}
+use mathlib.Core.Logic.{⊎-elim}
+use Prim.Native.Nat.{ℕ, zero, suc, _+_, _*_, _-_, _<_, _≤_}
+use native.Mathlib.Nat.{le-of-suc-le-suc, eq-or-lt-of-le}
+use native.Mathlib.Numerals.{add-one}
+use native.Mathlib.Omega.{arith}
+use lib.Dec.{eqb, ltb, leb}
+use lib.ListN.{length, take, drop, length-append, length-drop, drop-of-length-le}
+use lib.Seq.{length-take-le, take-all, take-append-seam, drop-append-seam, drop-drop}
+use borrow.Author.Tests.{ltb-true, ltb-false, leb-true, eqb-true, le-ltb, lt-ltb}
+use borrow.Rule.Slice.PartMut.{putMid}
+use Rattle.mrc_compiler.specs.declared.encoder.EncodeError.{EncodeError}
+use Rattle.mrc_compiler.specs.Choose.{pick, both}
+use Rattle.encode_spec.specs.Answer.{Answer, bytes, refused}
+use Rattle.encode_spec.proofs.Outcomes.{Short, answer-short}
+use Rattle.encode_run.specs.Run.{emptyRun}
+use Rattle.encode_fields.specs.declared.Refusal.the-variants as R
+use Rattle.encode_codes.specs.declared.Emitted.{Emitted}
+use Rattle.encode_codes.specs.Emit.{emitted}
+use Rattle.show_file.specs.declared.Header.{Header}
+use Rattle.show_file.specs.declared.LoadError.{LoadError}
+use Rattle.show_file.specs.declared.LoadError.the-variants as LE
+use Rattle.show_file.specs.declared.Opened.{Opened}
+use Rattle.show_file.specs.declared.Opened.the-variants as O
+use Rattle.show_file.specs.Show.{headerLength, knownVersion, mostRecords, hasMark, header, recordPlace, insnAt, headed, opened, firstFrom, firstUnknown}
+use Rattle.show_load.specs.declared.Loaded.the-variants as L
+use Rattle.show_load.specs.Loading.{Walk, all, stopped, offsetBehind, answerAt, bytesOf, followed, further, walk, bytesIn, isAll, isOver, firstOver, measured, showAccepted, acceptedBy, accepted}
+
+-- ---- the run of an answer: its bytes, at most seven; none of a refusal
+pub record Ran (d : Emitted) (bs : List ℕ) : Type 0 where
+  pub shown : take (d .run .len) (d .run .bytes) ≡ bs
+  pub count : d .run .len ≡ length bs
+  pub whole : length (d .run .bytes) ≡ 7
+  pub short : length bs ≤ 7
+
+ran-bytes : (bs : List ℕ) → length bs ≤ 7 → Ran (emitted emptyRun (bytes bs)) bs
+ran-bytes [] h = record { shown = refl; count = refl; whole = refl; short = h }
+ran-bytes (a ∷ []) h = record { shown = refl; count = refl; whole = refl; short = h }
+ran-bytes (a ∷ b ∷ []) h = record { shown = refl; count = refl; whole = refl; short = h }
+ran-bytes (a ∷ b ∷ c ∷ []) h = record { shown = refl; count = refl; whole = refl; short = h }
+ran-bytes (a ∷ b ∷ c ∷ d ∷ []) h = record { shown = refl; count = refl; whole = refl; short = h }
+ran-bytes (a ∷ b ∷ c ∷ d ∷ e ∷ []) h = record { shown = refl; count = refl; whole = refl; short = h }
+ran-bytes (a ∷ b ∷ c ∷ d ∷ e ∷ f ∷ []) h = record { shown = refl; count = refl; whole = refl; short = h }
+ran-bytes (a ∷ b ∷ c ∷ d ∷ e ∷ f ∷ g ∷ []) h = record { shown = refl; count = refl; whole = refl; short = h }
+ran-bytes (a ∷ b ∷ c ∷ d ∷ e ∷ f ∷ g ∷ x ∷ bs) h = absurd (omega arith)
+
+ran-by : (a : Answer) → Short a → Ran (emitted emptyRun a) (bytesOf a)
+ran-by (bytes bs) h = ran-bytes bs h
+ran-by (refused e) h = record { shown = refl; count = refl; whole = refl; short = omega arith }
+
+pub answer-at-short : (file : List ℕ) (origin k at : ℕ) → Short (answerAt file origin k at)
+answer-at-short file origin k at = answer-short (insnAt file k) (offsetBehind origin at) (omega arith)
+
+-- what run_at gives
+pub ran : (file : List ℕ) (origin k at : ℕ) (d : Emitted) → d ≡ emitted emptyRun (answerAt file origin k at) → Ran d (bytesOf (answerAt file origin k at))
+ran file origin k at d hd = rw hd (ran-by (answerAt file origin k at) (answer-at-short file origin k at))
+
+-- ---- the walk
+walk-next : (file : List ℕ) (origin k : ℕ) (bs : List ℕ) → walk file origin k ≡ all bs
+    → walk file origin (suc k) ≡ followed k bs (answerAt file origin k (length bs))
+unfolding walk
+walk-next file origin k bs e = rw e
+
+walk-on : (file : List ℕ) (origin k i : ℕ) (e : EncodeError) → walk file origin k ≡ stopped i e → walk file origin (suc k) ≡ stopped i e
+unfolding walk
+walk-on file origin k i e q = rw q
+
+-- a refusal stays, whatever follows
+stays : (file : List ℕ) (origin k n i : ℕ) (e : EncodeError) → walk file origin k ≡ stopped i e → k ≤ n → walk file origin n ≡ stopped i e
+stays file origin k zero i e q h = let z : k ≡ 0 = omega arith in rw z at q
+stays file origin k (suc n) i e q h =
+    ⊎-elim (λ z. rw z at q) (λ l. walk-on file origin n i e (stays file origin k n i e q (le-of-suc-le-suc l))) (eq-or-lt-of-le h)
+
+-- ---- where all are accepted
+all-not-stopped : {k : ℕ} {e : EncodeError} {w : Walk} → isAll w ≡ true → w ≡ stopped k e → ⊥
+all-not-stopped t q = let f : false ≡ true = rw q at t in let z : _≡_ {A = ℕ} 0 1 = cc in omega arith
+
+-- the first k records are accepted, and end at `at`
+pub record Upto (file : List ℕ) (origin k at : ℕ) : Type 0 where
+  pub whole : walk file origin k ≡ all (bytesIn (walk file origin k))
+  pub ends : at ≡ length (bytesIn (walk file origin k))
+
+pub upto-start : (file : List ℕ) (origin : ℕ) → Upto file origin 0 0
+unfolding walk
+upto-start file origin = record { whole = refl; ends = refl }
+
+-- one step: record k's bytes stand behind the others
+pub record Step (file : List ℕ) (origin k at : ℕ) : Type 0 where
+  pub after : bytesIn (walk file origin (k + 1)) ≡ bytesIn (walk file origin k) ++ bytesOf (answerAt file origin k at)
+  pub upto : Upto file origin (k + 1) (at + length (bytesOf (answerAt file origin k at)))
+
+module _ (file : List ℕ) (origin k at : ℕ) (u : Upto file origin k at) where
+  next-is : walk file origin (suc k) ≡ followed k (bytesIn (walk file origin k)) (answerAt file origin k at)
+  next-is = rw (u .ends) (walk-next file origin k (bytesIn (walk file origin k)) (u .whole))
+
+  step-bytes : (cs : List ℕ) → answerAt file origin k at ≡ bytes cs → Step file origin k at
+  step-bytes cs e =
+      let n : walk file origin (k + 1) ≡ all (bytesIn (walk file origin k) ++ cs) = rw (add-one k) (next-is ∙ rw e) in
+      record {
+        after = rw (n, e) refl;
+        upto = record { whole = rw n refl; ends = rw (n, e, length-append (bytesIn (walk file origin k)) cs, ← (u .ends)) refl };
+      }
+
+  step-stops : (e : EncodeError) → answerAt file origin k at ≡ refused e → (n : ℕ) → k < n → walk file origin n ≡ stopped k e
+  step-stops e q n h = stays file origin (suc k) n k e (next-is ∙ rw q) h
+
+  -- by what run_at gives
+  module _ (d : Emitted) (hd : d ≡ emitted emptyRun (answerAt file origin k at)) where
+    pub step-none : d .refusal ≡ R.None → Step file origin k at
+    step-none q = go (answerAt file origin k at) refl
+      where
+        go : (a : Answer) → answerAt file origin k at ≡ a → Step file origin k at
+        go (bytes cs) e = step-bytes cs e
+        go (refused x) e = let r : R.Because x ≡ R.None = rw (hd, e) at q in let z : _≡_ {A = ℕ} 0 1 = cc in absurd (omega arith)
+
+    pub step-refused : (x : EncodeError) → d .refusal ≡ R.Because x → (n : ℕ) → k < n → walk file origin n ≡ stopped k x
+    step-refused x q n h = go (answerAt file origin k at) refl
+      where
+        go : (a : Answer) → answerAt file origin k at ≡ a → walk file origin n ≡ stopped k x
+        go (bytes cs) e = let r : R.None ≡ R.Because x = rw (hd, e) at q in let z : _≡_ {A = ℕ} 0 1 = cc in absurd (omega arith)
+        go (refused y) e = let r : R.Because y ≡ R.Because x = rw (hd, e) at q in let same : y ≡ x = cc in step-stops x (rw same at e) n h
+
+  -- where the first n are accepted
+  module _ (n : ℕ) (t : isAll (walk file origin n) ≡ true) (h : k < n) where
+    pub step-all : Step file origin k at
+    step-all = go (answerAt file origin k at) refl
+      where
+        go : (a : Answer) → answerAt file origin k at ≡ a → Step file origin k at
+        go (bytes cs) e = step-bytes cs e
+        go (refused x) e = absurd (all-not-stopped t (step-stops x e n h))
+
+-- where they are, no later record ends earlier
+grows : (file : List ℕ) (origin n j k at : ℕ) → Upto file origin k at → isAll (walk file origin n) ≡ true → n ≡ k + j → at ≤ length (bytesIn (walk file origin n))
+grows file origin n zero k at u t e = let z : n ≡ k = omega arith in rw z (omega (arith, u .ends))
+grows file origin n (suc j) k at u t e =
+    let s = step-all file origin k at u n t (omega arith) in
+    let g = grows file origin n j (k + 1) (at + length (bytesOf (answerAt file origin k at))) (s .upto) t (omega arith) in
+    omega arith
+
+pub step-in : (file : List ℕ) (origin k at : ℕ) → Upto file origin k at → (n : ℕ) → isAll (walk file origin n) ≡ true → k < n
+    → at + length (bytesOf (answerAt file origin k at)) ≤ length (bytesIn (walk file origin n))
+step-in file origin k at u n t h = grows file origin n (n - (k + 1)) (k + 1) _ (step-all file origin k at u n t h .upto) t (omega arith)
+
+-- ---- records have at most seven bytes each
+within-by : (k : ℕ) (bs : List ℕ) → length bs ≤ 7 * k → (a : Answer) → Short a → length (bytesIn (followed k bs a)) ≤ 7 * suc k
+within-by k bs h (bytes cs) q = rw (length-append bs cs) (omega arith)
+within-by k bs h (refused e) q = omega arith
+
+within-next : (file : List ℕ) (origin k : ℕ) (w : Walk) → length (bytesIn w) ≤ 7 * k → length (bytesIn (further file origin k w)) ≤ 7 * suc k
+within-next file origin k (all bs) h = within-by k bs h (answerAt file origin k (length bs)) (answer-at-short file origin k (length bs))
+within-next file origin k (stopped i e) h = omega arith
+
+pub within-seven : (file : List ℕ) (origin n : ℕ) → length (bytesIn (walk file origin n)) ≤ 7 * n
+unfolding walk
+within-seven file origin zero = omega arith
+within-seven file origin (suc n) = within-next file origin n (walk file origin n) (within-seven file origin n)
+
+-- ---- P stands at the front of a slice that was s₀
+pub record Front (P s₀ s : List ℕ) : Type 0 where
+  pub is : s ≡ P ++ drop (length P) s₀
+  pub same : length s ≡ length s₀
+
+pub front-start : (s : List ℕ) → Front [] s s
+front-start s = record { is = refl; same = refl }
+
+pub front-is : (P s₀ s : List ℕ) → length P ≤ length s₀ → s ≡ P ++ drop (length P) s₀ → Front P s₀ s
+front-is P s₀ s h e = record { is = e; same = rw (e, length-append P, length-drop (length P) s₀) (omega arith) }
+
+-- the part from `at` on, as it is lent
+abbrev pub lent : List ℕ → ℕ → List ℕ
+lent s at = take (length s - at) (drop at s)
+
+pub lent-length : (s : List ℕ) (at : ℕ) → length (lent s at) ≡ length s - at
+lent-length s at = length-take-le (length s - at) (drop at s) (rw (length-drop at s) (omega arith))
+
+-- what a writer leaves there, seen in the whole slice
+written : (P B s₀ s : List ℕ) → s ≡ P ++ drop (length P) s₀
+    → putMid (length P) (length s - length P) s (B ++ drop (length B) (lent s (length P))) ≡ (P ++ B) ++ drop (length (P ++ B)) s₀
+written P B s₀ s e =
+    let before : take (length P) s ≡ P = rw e (take-append-seam P (drop (length P) s₀)) in
+    let after : drop (length P) s ≡ drop (length P) s₀ = rw e (drop-append-seam P (drop (length P) s₀)) in
+    let whole : take (length s - length P) (drop (length P) s) ≡ drop (length P) s = take-all (length s - length P) (drop (length P) s) (rw (length-drop (length P) s) (omega arith)) in
+    let none : drop (length s - length P) (drop (length P) s) ≡ [] = drop-of-length-le (drop (length P) s) {i = length s - length P} (rw (length-drop (length P) s) (omega arith)) in
+    rw (whole, none, after, before) (simp (append-nil, append-assoc, drop-drop, length-append))
+
+pub front-next : (P B s₀ s last : List ℕ) (at : ℕ) → Front P s₀ s → at ≡ length P → at + length B ≤ length s₀ → last ≡ B ++ drop (length B) (lent s at)
+    → Front (P ++ B) s₀ (putMid at (length s - at) s last)
+front-next P B s₀ s last at f e h l =
+    let w : putMid at (length s - at) s last ≡ (P ++ B) ++ drop (length (P ++ B)) s₀ = rw (l, e) (written P B s₀ s (f .is)) in
+    front-is (P ++ B) s₀ (putMid at (length s - at) s last) (rw (length-append P B) (omega arith)) w
+
+-- ---- an end behind the image's
+module _ (file : List ℕ) (origin size k m : ℕ) (e : m ≡ length (bytesIn (walk file origin (k + 1)))) where
+  pub over-yes : size < m → isOver file origin size k ≡ true
+  unfolding isOver
+  over-yes z = lt-ltb size (length (bytesIn (walk file origin (suc k)))) (rw (← (add-one k), ← e) z)
+
+  pub over-no : m ≤ size → isOver file origin size k ≡ false
+  unfolding isOver
+  over-no z = le-ltb size (length (bytesIn (walk file origin (suc k)))) (rw (← (add-one k), ← e) z)
+
+-- ---- the first that does not fit is one of the records
+from-le : (f : ℕ → Bool) (k i j : ℕ) → i ≤ j → j < i + k → f j ≡ true → firstFrom f k i ≤ j
+from-le f zero i j a b t = absurd (omega arith)
+from-le f (suc k) i j a b t = go (f i) refl (λ h. from-le f k (suc i) j h (omega arith) t)
+  where
+    go : (c : Bool) → f i ≡ c → (suc i ≤ j → firstFrom f k (suc i) ≤ j) → pick c i (firstFrom f k (suc i)) ≤ j
+    go true e r = a
+    go false e r = ⊎-elim (λ q. let w : f i ≡ true = rw q t in let z : _≡_ {A = ℕ} 0 1 = cc in absurd (omega arith)) r (eq-or-lt-of-le a)
+
+pub over-below : (file : List ℕ) (origin size n : ℕ) → size < length (bytesIn (walk file origin n)) → firstOver file origin size n < n
+unfolding isOver walk
+over-below file origin size zero h = absurd (omega arith)
+over-below file origin size (suc n) h =
+    let l = from-le (isOver file origin size) (suc n) 0 n (omega arith) (omega arith) (lt-ltb size (length (bytesIn (walk file origin (suc n)))) h) in
+    omega arith
+
+-- ---- an opened show has the length of its records
+pub record Exact (file : List ℕ) (h : Header) : Type 0 where
+  pub its-length : length file ≡ recordPlace (h .count)
+  pub its-count : h .count ≤ mostRecords
+
+shut : {e : LoadError} {h : Header} → O.Refused e ≡ O.Show h → ⊥
+shut q = let z : _≡_ {A = ℕ} 0 1 = cc in omega arith
+
+pub opened-exact : (file : List ℕ) (h : Header) → opened file ≡ O.Show h → Exact file h
+unfolding opened headed
+opened-exact file h q =
+    go (hasMark file) (leb headerLength (length file)) (eqb (header file .version) knownVersion) (leb (header file .count) mostRecords)
+    (eqb (length file) (recordPlace (header file .count))) refl refl q
+  where
+    go : (a b c d e : Bool) → leb (header file .count) mostRecords ≡ d → eqb (length file) (recordPlace (header file .count)) ≡ e
+        → pick a (pick b (pick c (pick (both d e) (O.Show (header file)) (O.Refused LE.WrongLength)) (O.Refused LE.WrongVersion)) (O.Refused LE.WrongLength)) (O.Refused LE.NoMark) ≡ O.Show h
+        → Exact file h
+    go true true true true true hd he q =
+        let e : header file ≡ h = cc in
+        rw (← e) (record { its-length = eqb-true (length file) (recordPlace (header file .count)) he; its-count = leb-true (header file .count) mostRecords hd })
+    go true true true true false hd he q = absurd (shut q)
+    go true true true false e hd he q = absurd (shut q)
+    go true true false d e hd he q = absurd (shut q)
+    go true false c d e hd he q = absurd (shut q)
+    go false b c d e hd he q = absurd (shut q)
+
+-- ---- an accepted show: the length of its records is asked, and each is accepted
+pub record Accepted (file : List ℕ) (h : Header) (n : ℕ) : Type 0 where
+  pub exact : Exact file h
+  pub all-in : isAll (walk file (h .origin) (h .count)) ≡ true
+  pub size : n ≡ length (bytesIn (walk file (h .origin) (h .count)))
+
+refused-image : {x : LoadError} {h : Header} {n : ℕ} → L.Refused x ≡ L.Image h n → ⊥
+refused-image e = let z : _≡_ {A = ℕ} 0 1 = cc in omega arith
+
+module _ (file : List ℕ) (h : Header) (n : ℕ) where
+  measured-image : (g : Header) (w : Walk) → measured g w ≡ L.Image h n → (g ≡ h) × (isAll w ≡ true) × (n ≡ length (bytesIn w))
+  measured-image g (all bs) q = ((cc), refl, (cc))
+  measured-image g (stopped k e) q = absurd (refused-image q)
+
+  show-image : (g : Header) → opened file ≡ O.Show g → showAccepted file g ≡ L.Image h n → Accepted file h n
+  unfolding showAccepted
+  show-image g e q = go (ltb (firstUnknown file (g .count)) (g .count)) q
+    where
+      go : (b : Bool) → pick b (L.Refused (LE.UnknownCode (firstUnknown file (g .count)))) (measured g (walk file (g .origin) (g .count))) ≡ L.Image h n
+          → Accepted file h n
+      go true q = absurd (refused-image q)
+      go false q =
+          let (same, t, size) = measured-image g (walk file (g .origin) (g .count)) q in
+          record { exact = opened-exact file h (rw same at e); all-in = rw same at t; size = rw same at size }
+
+  pub accepted-image : accepted file ≡ L.Image h n → Accepted file h n
+  accepted-image q = go (opened file) refl q
+    where
+      go : (o : Opened) → opened file ≡ o → acceptedBy file o ≡ L.Image h n → Accepted file h n
+      go (O.Show g) e q = show-image g e q
+      go (O.Refused x) e q = absurd (refused-image q)

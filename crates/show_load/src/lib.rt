@@ -1,0 +1,168 @@
+// The loader: a show file becomes the image of its records (document 01, 'Show file').
+ghost use mathlib.Core.Path.{_≡_};
+ghost use mathlib.Core.Bool.{true};
+ghost use mathlib.Core.List.{_++_};
+ghost use Prim.Native.Nat.{_<_, _≤_};
+ghost use lib.ListN.{length, drop};
+ghost use Rattle.encode_run.specs.Run.{emptyRun};
+ghost use Rattle.encode_codes.specs.Emit.{emitted};
+ghost use Rattle.show_file.specs.Show.{recordPlace, mostRecords};
+ghost use Rattle.show_load.specs.Loading.{offsetBehind, answerAt, walk, bytesOf, bytesIn, isAll, firstOver, measured, accepted, tooShort, loaded, imageAfter};
+use encode_codes::Emitted;
+use encode_fields::Refusal;
+use encoder::write_run;
+use mrc_compiler::encoder::EncodeError;
+use show_file::Header;
+use show_file::LoadError;
+use show_file::Opened;
+use show_file::first_unknown;
+use show_file::insn_at;
+use show_file::open;
+
+pub enum Loaded {
+    // The header, and the length of the image.
+    Image(Header, usize),
+    Refused(LoadError),
+}
+
+// The offset of what stands behind so many bytes: it wraps at 65,536.
+pub fn offset_behind(origin: u16, at: usize) -> u16
+    ensures { λ r. ⌜ r ≡ offsetBehind origin at ⌝ }
+{
+    std::num::wrapping_add_u16(origin, (at % 65536) as u16)
+}
+
+// One step: record k of n, so many bytes behind the origin, as the run of its bytes or its refusal.
+pub fn run_at(file: &[u8], n: usize, origin: u16, k: usize, at: usize) -> Emitted
+    requires { ⌜ (length (now file) ≡ recordPlace n) × (n ≤ mostRecords) × (k < n) ⌝ }
+    ensures { λ r. ⌜ r ≡ emitted emptyRun (answerAt (now (file .entry)) origin k at) ⌝ }
+{
+    let insn = insn_at(file, n, k);
+    let offset = offset_behind(origin, at);
+    encoder::run_of(insn, offset)
+}
+
+// Each record in order: the header with the length of all, or the first that is refused.
+fn measure(file: &[u8], header: Header) -> Loaded
+    requires { ⌜ (length (now file) ≡ recordPlace (header .count)) × (header .count ≤ mostRecords) ⌝ }
+    ensures { λ r. ⌜ r ≡ measured header (walk (now (file .entry)) (header .origin) (header .count)) ⌝ }
+{
+    let n = header.count as usize;
+    let origin = header.origin;
+    let mut k = 0;
+    let mut at = 0;
+    while k < n {
+        let step = run_at(file, n, origin, k, at);
+        let refusal = step.refusal;
+        let run = step.run;
+        match refusal {
+            Refusal::Because(e) => {
+                return Loaded::Refused(LoadError::Record(k, e));
+            },
+            Refusal::None => {
+                at = at + run.len;
+            },
+        }
+        k += 1;
+    }
+    Loaded::Image(header, at)
+}
+
+// The questions about the file, then its records: the header and the length of the image, or the refusal.
+pub fn accept(file: &[u8]) -> Loaded
+    ensures { λ r. ⌜ r ≡ accepted (now (file .entry)) ⌝ }
+{
+    let show = open(file);
+    match show {
+        Opened::Refused(e) => Loaded::Refused(e),
+        Opened::Show(header) => {
+            let n = header.count as usize;
+            let unknown = first_unknown(file, n);
+            if unknown < n {
+                return Loaded::Refused(LoadError::UnknownCode(unknown));
+            }
+            measure(file, header)
+        },
+    }
+}
+
+// The first record that ends behind so many bytes, or n.
+fn first_over(file: &[u8], n: usize, origin: u16, size: usize) -> usize
+    requires { ⌜ (length (now file) ≡ recordPlace n) × (n ≤ mostRecords) × (isAll (walk (now file) origin n) ≡ true) ⌝ }
+    ensures { λ r. ⌜ r ≡ firstOver (now (file .entry)) origin size n ⌝ }
+{
+    let mut k = 0;
+    let mut at = 0;
+    while k < n {
+        let step = run_at(file, n, origin, k, at);
+        let run = step.run;
+        let m = run.len;
+        if size - at < m {
+            return k;
+        }
+        at = at + m;
+        k += 1;
+    }
+    n
+}
+
+// Writes record k, so many bytes behind the origin, to the front of out, and answers its length.
+fn write_record(file: &[u8], n: usize, origin: u16, k: usize, at: usize, out: &mut [u8]) -> usize
+    requires { ⌜ (length (now file) ≡ recordPlace n) × (n ≤ mostRecords) × (k < n) × (length (bytesOf (answerAt (now file) origin k at)) ≤ length (now out)) ⌝ }
+    ensures { λ r. ⌜ r ≡ length (bytesOf (answerAt (now (file .entry)) origin k at)) ⌝ }
+    ensures { λ _. ⌜ now (out .exit) ≡ bytesOf (answerAt (now (file .entry)) origin k at) ++ drop (length (bytesOf (answerAt (now (file .entry)) origin k at))) (now (out .entry)) ⌝ }
+{
+    let step = run_at(file, n, origin, k, at);
+    let run = step.run;
+    let m = run.len;
+    write_run(run, out);
+    m
+}
+
+// Each record into the part of the image that starts where the last one ended.
+fn write_all(file: &[u8], n: usize, origin: u16, image: &mut [u8])
+    requires { ⌜ (length (now file) ≡ recordPlace n) × (n ≤ mostRecords) × (isAll (walk (now file) origin n) ≡ true) × (length (bytesIn (walk (now file) origin n)) ≤ length (now image)) ⌝ }
+    ensures { λ _. ⌜ now (image .exit) ≡ bytesIn (walk (now (file .entry)) origin n) ++ drop (length (bytesIn (walk (now (file .entry)) origin n))) (now (image .entry)) ⌝ }
+{
+    let mut k = 0;
+    let mut at = 0;
+    while k < n {
+        let part = &mut image[at..];
+        let m = write_record(file, n, origin, k, at, part);
+        at = at + m;
+        k += 1;
+    }
+}
+
+// 9, with the span of the record that does not fit.
+fn too_short(file: &[u8], n: usize, k: usize) -> Loaded
+    requires { ⌜ (length (now file) ≡ recordPlace n) × (n ≤ mostRecords) × (k < n) ⌝ }
+    ensures { λ r. ⌜ r ≡ tooShort (now (file .entry)) k ⌝ }
+{
+    let insn = insn_at(file, n, k);
+    let span = insn.opers_span;
+    Loaded::Refused(LoadError::Record(k, EncodeError::SliceTooShort(span)))
+}
+
+// Loads a show file: the image of its records at the front of the lent slice, or the refusal, which leaves the slice as it was.
+pub fn load(file: &[u8], image: &mut [u8]) -> Loaded
+    ensures { λ r. ⌜ r ≡ loaded (now (file .entry)) (length (now (image .entry))) ⌝ }
+    ensures { λ _. ⌜ now (image .exit) ≡ imageAfter (now (file .entry)) (now (image .entry)) ⌝ }
+{
+    let show = accept(file);
+    match show {
+        Loaded::Refused(e) => Loaded::Refused(e),
+        Loaded::Image(header, m) => {
+            let n = header.count as usize;
+            let origin = header.origin;
+            let room = image.len();
+            if m <= room {
+                write_all(file, n, origin, image);
+                Loaded::Image(header, m)
+            } else {
+                let k = first_over(file, n, origin, room);
+                too_short(file, n, k)
+            }
+        },
+    }
+}

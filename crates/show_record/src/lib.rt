@@ -1,0 +1,221 @@
+// A record of a show file becomes an instruction (document 01, 'Show file').
+ghost use mathlib.Core.Path.{_≡_};
+ghost use Prim.Native.Nat.{_+_, _≤_};
+ghost use lib.ListN.{length, getD};
+ghost use Rattle.mrc_compiler.specs.declared.operations.Operation.the-variants as Op;
+ghost use Rattle.mrc_compiler.specs.declared.encoder.OperandKind.the-variants as K;
+ghost use Rattle.mrc_compiler.specs.declared.encoder.OperandSize.the-variants as S;
+ghost use Rattle.mrc_compiler.specs.declared.encoder.JumpKind.the-variants as J;
+ghost use Rattle.mrc_compiler.specs.Operations.{operations};
+ghost use Rattle.base_values.specs.Distances.{asI32};
+ghost use Rattle.show_record.specs.Record.{kinds, sizes, jumpKinds, operandLength, recordLength, byteAt, u32Of, u32At, i32At, spanAt, operandAt, instructionAt, operandKnown, codesKnown};
+use mrc_compiler::ast::Span;
+use mrc_compiler::encoder::InstructionData;
+use mrc_compiler::encoder::JumpKind;
+use mrc_compiler::encoder::OperandData;
+use mrc_compiler::encoder::OperandKind;
+use mrc_compiler::encoder::OperandSize;
+use mrc_compiler::operations::Operation;
+use mrc_compiler::operations::OptionOperation;
+
+// The places of an operand's fields, from its first byte.
+const KIND: usize = 0;
+
+const SIZE: usize = 1;
+
+const PREFIX: usize = 2;
+
+const DISPLACEMENT_SIZE: usize = 3;
+
+const JUMP_KIND: usize = 4;
+
+const MODE: usize = 5;
+
+const RM: usize = 6;
+
+const IMM: usize = 7;
+
+const DISPLACEMENT: usize = 11;
+
+const OPERAND_SPAN: usize = 15;
+
+const OPERAND_LENGTH: usize = 23;
+
+// The places of a record's fields.
+const OPERATION: usize = 0;
+
+const COUNT: usize = 1;
+
+const SPAN: usize = 2;
+
+const FIRST: usize = 10;
+
+const SECOND: usize = FIRST + OPERAND_LENGTH;
+
+pub const RECORD_LENGTH: usize = SECOND + OPERAND_LENGTH;
+
+// The byte at a place, 0 past the end.
+pub fn byte_at(bytes: &[u8], at: usize) -> u8
+    ensures { λ r. ⌜ r ≡ byteAt (now (bytes .entry)) at ⌝ }
+{
+    if at < bytes.len() { bytes[at] } else { 0 }
+}
+
+// The number of four bytes, low byte first.
+fn u32_of(a: u8, b: u8, c: u8, d: u8) -> u32
+    ensures { λ r. ⌜ r ≡ u32Of a b c d ⌝ }
+{
+    (a as u32) + 256 * ((b as u32) + 256 * ((c as u32) + 256 * (d as u32)))
+}
+
+// The u32 at a place.
+fn u32_at(bytes: &[u8], at: usize) -> u32
+    requires { ⌜ at + 4 ≤ length (now bytes) ⌝ }
+    ensures { λ r. ⌜ r ≡ u32At (now (bytes .entry)) at ⌝ }
+{
+    u32_of(bytes[at], bytes[at + 1], bytes[at + 2], bytes[at + 3])
+}
+
+// The i32 with the same 32 bits.
+fn as_i32(n: u32) -> i32
+    ensures { λ r. ⌜ r ≡ asI32 n ⌝ }
+{
+    if n < 2147483648 {
+        n as i32
+    } else {
+        -1 - (4294967295 - n) as i32
+    }
+}
+
+// The i32 at a place.
+fn i32_at(bytes: &[u8], at: usize) -> i32
+    requires { ⌜ at + 4 ≤ length (now bytes) ⌝ }
+    ensures { λ r. ⌜ r ≡ i32At (now (bytes .entry)) at ⌝ }
+{
+    as_i32(u32_at(bytes, at))
+}
+
+// The span at a place: its start, then its end.
+fn span_at(bytes: &[u8], at: usize) -> Span
+    requires { ⌜ at + 8 ≤ length (now bytes) ⌝ }
+    ensures { λ r. ⌜ r ≡ spanAt (now (bytes .entry)) at ⌝ }
+{
+    Span {
+        start: u32_at(bytes, at),
+        end: u32_at(bytes, at + 4),
+    }
+}
+
+// The operation of a code. An unknown code counts as the code 0.
+fn operation_of(code: u8) -> Operation
+    ensures { λ r. ⌜ r ≡ getD operations code Op.MOV ⌝ }
+{
+    match Operation::numbered(code) {
+        OptionOperation::Some(operation) => operation,
+        OptionOperation::None => Operation::MOV,
+    }
+}
+
+// The kind of a code. An unknown code counts as the code 0.
+fn kind_of(code: u8) -> OperandKind
+    ensures { λ r. ⌜ r ≡ getD kinds code K.Imm ⌝ }
+{
+    match code {
+        0 => OperandKind::Imm,
+        1 => OperandKind::Reg,
+        2 => OperandKind::Seg,
+        3 => OperandKind::Mem,
+        _ => OperandKind::Imm,
+    }
+}
+
+// The size of a code. An unknown code counts as the code 0.
+fn size_of(code: u8) -> OperandSize
+    ensures { λ r. ⌜ r ≡ getD sizes code S.Unspecified ⌝ }
+{
+    match code {
+        0 => OperandSize::Unspecified,
+        1 => OperandSize::Byte,
+        2 => OperandSize::Word,
+        _ => OperandSize::Unspecified,
+    }
+}
+
+// The jump kind of a code. An unknown code counts as the code 0.
+fn jump_kind_of(code: u8) -> JumpKind
+    ensures { λ r. ⌜ r ≡ getD jumpKinds code J.None ⌝ }
+{
+    match code {
+        0 => JumpKind::None,
+        1 => JumpKind::Far,
+        2 => JumpKind::Near,
+        3 => JumpKind::Short,
+        _ => JumpKind::None,
+    }
+}
+
+// The operand whose first byte stands at a place.
+fn operand_at(bytes: &[u8], at: usize) -> OperandData
+    requires { ⌜ at + operandLength ≤ length (now bytes) ⌝ }
+    ensures { λ r. ⌜ r ≡ operandAt (now (bytes .entry)) at ⌝ }
+{
+    OperandData {
+        span: span_at(bytes, at + OPERAND_SPAN),
+        size: size_of(bytes[at + SIZE]),
+        kind: kind_of(bytes[at + KIND]),
+        segment_prefix: bytes[at + PREFIX],
+        imm: i32_at(bytes, at + IMM),
+        displacement: i32_at(bytes, at + DISPLACEMENT),
+        displacement_size: size_of(bytes[at + DISPLACEMENT_SIZE]),
+        jmp_kind: jump_kind_of(bytes[at + JUMP_KIND]),
+        mode: bytes[at + MODE],
+        rm: bytes[at + RM],
+    }
+}
+
+// The instruction of a record whose codes are known. An enum that says whether they are cannot hold the operands' array: `codes_known` says it.
+pub fn instruction_at(bytes: &[u8]) -> InstructionData
+    requires { ⌜ length (now bytes) ≡ recordLength ⌝ }
+    ensures { λ r. ⌜ r ≡ instructionAt (now (bytes .entry)) ⌝ }
+{
+    let first = operand_at(bytes, FIRST);
+    let second = operand_at(bytes, SECOND);
+    InstructionData {
+        operation: operation_of(bytes[OPERATION]),
+        num_opers: bytes[COUNT],
+        opers: [first, second],
+        opers_span: span_at(bytes, SPAN),
+    }
+}
+
+// Are the codes of the operand at a place known?
+fn operand_known(bytes: &[u8], at: usize) -> bool
+    requires { ⌜ at + operandLength ≤ length (now bytes) ⌝ }
+    ensures { λ r. ⌜ r ≡ operandKnown (now (bytes .entry)) at ⌝ }
+{
+    if 4 <= bytes[at + KIND] {
+        return false;
+    }
+    if 3 <= bytes[at + SIZE] {
+        return false;
+    }
+    if 3 <= bytes[at + DISPLACEMENT_SIZE] {
+        return false;
+    }
+    bytes[at + JUMP_KIND] < 4
+}
+
+// Are all codes of a record known, those of an operand that is not used too? No: refusal 15.
+pub fn codes_known(bytes: &[u8]) -> bool
+    requires { ⌜ length (now bytes) ≡ recordLength ⌝ }
+    ensures { λ r. ⌜ r ≡ codesKnown (now (bytes .entry)) ⌝ }
+{
+    if 99 <= bytes[OPERATION] {
+        return false;
+    }
+    if operand_known(bytes, FIRST) {
+        operand_known(bytes, SECOND)
+    } else {
+        false
+    }
+}

@@ -1,0 +1,54 @@
+//! The proved 8086 encoder for show files: an instruction becomes bytes or one refusal, bytes become an instruction, an instruction the list of
+//! all its byte strings, and a show file the image of its records.
+//!
+//! ```
+//! use fsq::{encode, list, read, Base, Instruction, Operand, Operation};
+//!
+//! // Word ADD [BX],5: document 01's bench sheet has 83 07 05 and twelve entries.
+//! let add = Instruction::two(Operation::ADD, Operand::memory(Base::BX, 0).word(), 5);
+//! let bytes = encode(&add, 256)?;
+//! assert_eq!(bytes, [0x83, 0x07, 0x05]);
+//! assert_eq!(read(&bytes, 256)?.to_string(), "ADD word [BX],5");
+//! assert_eq!(list(&add, 256)?.len(), 12);
+//! # Ok::<(), fsq::Refusal>(())
+//! ```
+//!
+//! A refusal says what is wrong in words, and has the number, the span and the values for a program:
+//!
+//! ```
+//! use fsq::{encode, Base, Instruction, Operand, Operation, Reason};
+//!
+//! // Document 01's bench sheet: MOV byte [BX],300 is 5.
+//! let mov = Instruction::two(Operation::MOV, Operand::memory(Base::BX, 0).byte(), 300);
+//! let refusal = encode(&mov, 0).unwrap_err();
+//! assert_eq!(refusal.number(), 5);
+//! assert_eq!(refusal.reason, Reason::ImmediateOutOfRange { value: 300, low: -128, high: 255 });
+//! assert_eq!(refusal.to_string(), "value 300 is outside -128..255");
+//! ```
+//!
+//! The functions keep nothing between calls, and several threads may call them at once.
+
+#![deny(missing_docs)]
+#![deny(unsafe_code)]
+
+mod bindings;
+mod encoding;
+mod instruction;
+// The only place that calls C.
+#[allow(unsafe_code)]
+mod library;
+mod listing;
+mod operand;
+mod operation;
+mod reading;
+mod refusal;
+mod show;
+
+pub use encoding::{encode, encode_record, Bytes};
+pub use instruction::{Instruction, RECORD_LENGTH};
+pub use listing::{list, list_record, List};
+pub use operand::{Base, Jump, Operand, Register, Segment, Size, Span};
+pub use operation::Operation;
+pub use reading::{read, Extension, Part, Reading};
+pub use refusal::{Reason, Refusal};
+pub use show::{load, show_file};

@@ -1,0 +1,82 @@
+// Wrong programs for tests/outside/broken: our functions with one fault each, named by OUTSIDE_FAULT.
+#include "fsq.h"
+#include <stdlib.h>
+#include <string.h>
+
+extern __typeof__(fsq_encode) right_fsq_encode;
+extern __typeof__(fsq_read) right_fsq_read;
+extern __typeof__(fsq_list) right_fsq_list;
+
+static int fault(const char *name) {
+    static const char *named;
+    if (!named)
+        named = getenv("OUTSIDE_FAULT") ? getenv("OUTSIDE_FAULT") : "";
+    return strcmp(named, name) == 0;
+}
+
+uint8_t fsq_encode(const uint8_t *rec, size_t n, uint16_t offset, uint8_t *out, size_t m, uint8_t *report, size_t k) {
+    uint8_t number = right_fsq_encode(rec, n, offset, out, m, report, k);
+    // 000's AAM
+    if (fault("aam-a0") && number == 0 && out[0] == 0xD4)
+        out[1] = 0xA0;
+    // LOOPZ and LOOPNZ exchanged
+    if (fault("loopz-for-loopnz") && number == 0 && (out[0] == 0xE0 || out[0] == 0xE1))
+        out[0] ^= 1;
+    // a distance from the start
+    if (fault("distance") && number == 0 && out[0] == 0xE8)
+        out[1] += 3;
+    // EB's distance from offset + 3, as if it were as long as E9
+    if (fault("short-distance") && number == 0 && out[0] == 0xEB)
+        out[1] -= 1;
+    return number;
+}
+
+uint8_t fsq_read(const uint8_t *bytes, size_t n, uint16_t offset, uint8_t *out, size_t m) {
+    uint8_t number = right_fsq_read(bytes, n, offset, out, m);
+    // BP in DS
+    if (fault("bp-in-ds") && number == 0 && out[8] == 3 && out[9] == 6 && out[10] == 2)
+        out[10] = 3;
+    // 82 as 80
+    if (fault("82-reads") && n > 0 && bytes[0] == 0x82) {
+        uint8_t copy[16];
+        size_t length = n < 16 ? n : 16;
+        memcpy(copy, bytes, length);
+        copy[0] = 0x80;
+        return right_fsq_read(copy, length, offset, out, m);
+    }
+    // SALC, which no manual has
+    if (fault("no-salc") && n > 0 && bytes[0] == 0xD6)
+        return 10;
+    // F6 as before No. 1: TEST's /0 unused
+    if (fault("no-f6-0") && n > 1 && bytes[0] == 0xF6 && (bytes[1] & 0x38) == 0)
+        return 10;
+    // the far CALL with the near one's width
+    if (fault("far-as-near") && number == 0 && n > 1 && bytes[0] == 0xFF && (bytes[1] & 0x38) == 0x18)
+        out[2] = 2;
+    // a byte not asked for
+    if (fault("asks-more") && n == 1 && bytes[0] == 0x40)
+        return 11;
+    return number;
+}
+
+uint8_t fsq_list(const uint8_t *rec, size_t n, uint16_t offset, uint8_t *out, size_t m, uint8_t *report, size_t k) {
+    uint8_t number = right_fsq_list(rec, n, offset, out, m, report, k);
+    // the second direction of two registers
+    if (fault("one-missing") && number == 0 && report[0] > 1 && out[0] == 2 && out[1] == 0x01)
+        report[0]--;
+    // TEST of memory and a register without its longest string, which the other order has
+    if (fault("one-order") && number == 0 && rec[0] == 43 && rec[10] == 3 && rec[33] == 1 && report[0] > 1)
+        report[0]--;
+    // the shortest string
+    if (fault("shortest-missing") && number == 0 && report[0] > 1) {
+        memmove(out, out + 8, 8 * (size_t) (report[0] - 1));
+        report[0]--;
+    }
+    // a string beside them: STC in CLC's list
+    if (fault("one-beside") && number == 0 && out[1] == 0xF8) {
+        static const uint8_t entry[8] = { 1, 0xF9 };
+        memcpy(out + 8, entry, 8);
+        report[0] = 2;
+    }
+    return number;
+}
