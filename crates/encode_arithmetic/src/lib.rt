@@ -1,13 +1,10 @@
 // Arithmetic and logic of 000: ADD to CMP, NOT to IDIV, TEST, INC and DEC, shifts. Each function decides which form of the table a record takes.
 ghost use mathlib.Core.Path.{_≡_};
-ghost use mathlib.Core.Bool.{false};
 ghost use Prim.Native.Nat.{zero};
 ghost use lib.Dec.{eqb};
-ghost use lib.IntN.{pos, negsuc};
-ghost use Rattle.mrc_compiler.specs.Values.{within};
 ghost use Rattle.encode_groups.specs.declared.Group.the-variants as G;
 ghost use Rattle.encode_lines.specs.declared.Line.the-variants as L;
-ghost use Rattle.encode_plans.specs.Decisions.{byData, addForm, rmForm, testForm, incForm, shiftBy, decisionIn};
+ghost use Rattle.encode_plans.specs.Decisions.{takesByte, addForm, rmForm, testForm, incForm, shiftBy, decisionIn};
 use encode_lines::Decision;
 use encode_lines::Line;
 use encode_plans::Common;
@@ -19,7 +16,7 @@ use mrc_compiler::encoder::OperandKind;
 
 // A word immediate that is a signed byte takes 83.
 fn takes_byte(size: DataSize, value: i32) -> bool
-    ensures { λ r. ⌜ r ≡ byData size false (within (negsuc 127) (pos 127) value) ⌝ }
+    ensures { λ r. ⌜ r ≡ takesByte size value ⌝ }
 {
     match size {
         DataSize::Byte => false,

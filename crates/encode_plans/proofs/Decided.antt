@@ -8,7 +8,7 @@ use mathlib.Core.Bool.{Bool, true, false}
 use mathlib.Core.Logic.{_⊎_, inl, inr}
 use mathlib.Core.List.{List, [], _∷_, List·Memᴰ, List·Memᴰ·head, List·Memᴰ·tail}
 use lib.Dec.{eqb}
-use lib.IntN.{pos, negsuc}
+use lib.IntN.{pos}
 use Rattle.mrc_compiler.specs.declared.ast.DataSize.{DataSize}
 use Rattle.mrc_compiler.specs.declared.ast.DataSize.the-variants as Z
 use Rattle.mrc_compiler.specs.declared.encoder.OperandData.{OperandData}
@@ -65,22 +65,22 @@ by-common g fs k n a b f s t c h = go (commonOf (a .size) (b .size)) (common-is 
 
 -- ---- ADD OR ADC SBB AND SUB XOR CMP
 module _ (op : Operation) (n : ℕ) (l : n + 5 < 256) (a b : OperandData) where
-  add-immediate : (z : DataSize) (acc short : Bool) → a .kind ≡ K.Reg → b .kind ≡ K.Imm → eqb (a .rm) 0 ≡ acc → within (negsuc 127) (pos 127) (b .imm) ≡ short
-      → planned (decision (addForm K.Reg K.Imm (eqb (a .rm) 0) (takesByte z b)) z) n ≡ sizedPlan G.Arithmetic (F.arithmetic n op) (sizeFromSome z) a b
+  add-immediate : (z : DataSize) (acc short : Bool) → a .kind ≡ K.Reg → b .kind ≡ K.Imm → eqb (a .rm) 0 ≡ acc → takesByte Z.Word (b .imm) ≡ short
+      → planned (decision (addForm K.Reg K.Imm (eqb (a .rm) 0) (takesByte z (b .imm))) z) n ≡ sizedPlan G.Arithmetic (F.arithmetic n op) (sizeFromSome z) a b
   add-immediate Z.Byte true short hk hj ha hs = let e : (n + 4) % 256 ≡ n + 4 = omega arith in rw (hk, hj, ha, e)
   add-immediate Z.Byte false short hk hj ha hs = rw (hk, hj, ha)
   add-immediate Z.Word acc true hk hj ha hs = rw (hk, hj, hs)
   add-immediate Z.Word true false hk hj ha hs = let e : (n + 5) % 256 ≡ n + 5 = omega arith in rw (hk, hj, ha, hs, e)
   add-immediate Z.Word false false hk hj ha hs = rw (hk, hj, ha, hs)
 
-  add-stored : (z : DataSize) (short : Bool) → a .kind ≡ K.Mem → b .kind ≡ K.Imm → within (negsuc 127) (pos 127) (b .imm) ≡ short
-      → planned (decision (addForm K.Mem K.Imm (eqb (a .rm) 0) (takesByte z b)) z) n ≡ sizedPlan G.Arithmetic (F.arithmetic n op) (sizeFromSome z) a b
+  add-stored : (z : DataSize) (short : Bool) → a .kind ≡ K.Mem → b .kind ≡ K.Imm → takesByte Z.Word (b .imm) ≡ short
+      → planned (decision (addForm K.Mem K.Imm (eqb (a .rm) 0) (takesByte z (b .imm))) z) n ≡ sizedPlan G.Arithmetic (F.arithmetic n op) (sizeFromSome z) a b
   add-stored Z.Byte short hk hj hs = rw (hk, hj)
   add-stored Z.Word true hk hj hs = rw (hk, hj, hs)
   add-stored Z.Word false hk hj hs = rw (hk, hj, hs)
 
   add-law : (z : DataSize) (k j : OperandKind) → a .kind ≡ k → b .kind ≡ j
-      → planned (decision (addForm k j (eqb (a .rm) 0) (takesByte z b)) z) n ≡ sizedPlan G.Arithmetic (F.arithmetic n op) (sizeFromSome z) a b
+      → planned (decision (addForm k j (eqb (a .rm) 0) (takesByte z (b .imm))) z) n ≡ sizedPlan G.Arithmetic (F.arithmetic n op) (sizeFromSome z) a b
   add-law z K.Imm j hk hj = rw hk
   add-law z K.Reg K.Imm hk hj = add-immediate z _ _ hk hj refl refl
   add-law Z.Byte K.Reg K.Reg hk hj = let e : (n + 0) % 256 ≡ n = omega arith in rw (hk, hj, e)

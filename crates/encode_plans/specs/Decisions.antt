@@ -4,7 +4,7 @@
 use Prim.Native.Nat.{ℕ}
 use mathlib.Core.Bool.{Bool, true, false}
 use lib.Dec.{eqb}
-use lib.IntN.{pos}
+use lib.IntN.{ℤ, pos}
 use Rattle.mrc_compiler.specs.declared.ast.DataSize.{DataSize}
 use Rattle.mrc_compiler.specs.declared.ast.DataSize.the-variants as Z
 use Rattle.mrc_compiler.specs.declared.ast.OptionDataSize.{OptionDataSize}
@@ -151,8 +151,9 @@ abbrev pub intForm : OperandKind → Line
 intForm k = byKind k L.IntImm L.InvalidFirst L.InvalidFirst L.InvalidFirst
 
 -- ---- the groups, for the count k and the operands a and b
-abbrev pub takesByte : DataSize → OperandData → Bool
-takesByte z o = byData z false (within (limits sign-extended .low) (limits sign-extended .high) (o .imm))
+-- a word immediate that 83 takes
+abbrev pub takesByte : DataSize → ℤ → Bool
+takesByte z v = byData z false (within (limits sign-extended .low) (limits sign-extended .high) v)
 
 abbrev pub accDirect : OperandData → OperandData → Bool
 accDirect r m = both (eqb (r .rm) 0) (isDirectAddress (m .mode) (m .rm))
@@ -167,7 +168,7 @@ portDecision imm dx acc port =
     (λ z. portForm imm dx (acc .kind) (eqb (acc .rm) 0) (port .kind) (isDx (port .size) (port .rm)))
 
 abbrev pub decisionIn : Group → ℕ → OperandData → OperandData → Decision
-decisionIn G.Arithmetic k a b = byCommon (commonOf (a .size) (b .size)) (λ z. addForm (a .kind) (b .kind) (eqb (a .rm) 0) (takesByte z b))
+decisionIn G.Arithmetic k a b = byCommon (commonOf (a .size) (b .size)) (λ z. addForm (a .kind) (b .kind) (eqb (a .rm) 0) (takesByte z (b .imm)))
 decisionIn G.Unary k a b = byStated (statedSize (a .size)) L.SizeNotSpecified (λ z. rmForm L.UnaryRm (a .kind))
 decisionIn G.Mov k a b = byCommon (commonOf (a .size) (b .size)) (λ z. movForm z (a .kind) (b .kind) (accDirect a b) (accDirect b a) (eqb (a .rm) 1))
 decisionIn G.Test k a b = byCommon (commonOf (a .size) (b .size)) (λ z. testForm (a .kind) (b .kind) (eqb (a .rm) 0))

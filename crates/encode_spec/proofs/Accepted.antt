@@ -75,33 +75,33 @@ record Taken (fs : List Form) (f : Form) (s : OperandSize) (a : OperandData) (t 
 
 -- what is known of a choice
 abbrev Picked : Bool → List Form → OperandSize → OperandData → OperandSize → OperandData → Choice → Type 0
-Picked way fs s a t b none = T true
-Picked way fs s a t b (straight f) = Taken fs f s a t b
-Picked way fs s a t b (crossed f) = Taken fs f t b s a × (way ≡ true)
+Picked either-way fs s a t b none = T true
+Picked either-way fs s a t b (straight f) = Taken fs f s a t b
+Picked either-way fs s a t b (crossed f) = Taken fs f t b s a × (either-way ≡ true)
 
-module _ (way : Bool) (s : OperandSize) (a : OperandData) (t : OperandSize) (b : OperandData) where
+module _ (either-way : Bool) (s : OperandSize) (a : OperandData) (t : OperandSize) (b : OperandData) where
   -- what is known of a choice from a list stays so with a form before it
-  further : (f : Form) (fs : List Form) (c : Choice) → Picked way fs s a t b c → Picked way (f ∷ fs) s a t b c
+  further : (f : Form) (fs : List Form) (c : Choice) → Picked either-way fs s a t b c → Picked either-way (f ∷ fs) s a t b c
   further f fs none h = tt
   further f fs (straight g) h = record { listed = List·Memᴰ·tail (h .listed); first = h .first; second = h .second }
   further f fs (crossed g) h = (record { listed = List·Memᴰ·tail (h .0 .listed); first = h .0 .first; second = h .0 .second }, h .1)
 
   -- the first form taken, in one order or the other, or what the rest of the list gives
   tried : (f : Form) (fs : List Form) (c : Choice) (i j : Bool) → both (takes (f .first) s a) (takes (f .second) t b) ≡ i
-      → both way (both (takes (f .first) t b) (takes (f .second) s a)) ≡ j → Picked way fs s a t b c
-      → Picked way (f ∷ fs) s a t b (pick i (straight f) (pick j (crossed f) c))
+      → both either-way (both (takes (f .first) t b) (takes (f .second) s a)) ≡ j → Picked either-way fs s a t b c
+      → Picked either-way (f ∷ fs) s a t b (pick i (straight f) (pick j (crossed f) c))
   tried f fs c true j d e h =
       let x = both-true (takes (f .first) s a) (takes (f .second) t b) d in
       record { listed = List·Memᴰ·head refl; first = x .0; second = x .1 }
   tried f fs c false true d e h =
-      let x = both-true way (both (takes (f .first) t b) (takes (f .second) s a)) e in
+      let x = both-true either-way (both (takes (f .first) t b) (takes (f .second) s a)) e in
       let y = both-true (takes (f .first) t b) (takes (f .second) s a) (x .1) in
       (record { listed = List·Memᴰ·head refl; first = y .0; second = y .1 }, x .0)
   tried f fs c false false d e h = further f fs c h
 
-  picked : (fs : List Form) → Picked way fs s a t b (choose way fs s a t b)
+  picked : (fs : List Form) → Picked either-way fs s a t b (choose either-way fs s a t b)
   picked [] = tt
-  picked (f ∷ fs) = tried f fs (choose way fs s a t b) _ _ refl refl (picked fs)
+  picked (f ∷ fs) = tried f fs (choose either-way fs s a t b) _ _ refl refl (picked fs)
 
 -- ---- an operation at an offset
 module _ (op : Operation) (off : ℕ) where

@@ -164,22 +164,22 @@ module _ (insn : InstructionData) (off i j : ℕ) (other-i : other insn i ≡ op
   form-tied = asked-in-parts ∙ sym coded-in-parts
 
 -- ---- what holds of every choice that the list of forms allows holds of the form chosen
-module _ (P : Choice → Type 0) (way : Bool) (s : OperandSize) (a : OperandData) (t : OperandSize) (b : OperandData) (n : P none) where
+module _ (P : Choice → Type 0) (either-way : Bool) (s : OperandSize) (a : OperandData) (t : OperandSize) (b : OperandData) (n : P none) where
   choose-has : (fs : List Form)
       → ((f : Form) → List·Memᴰ f fs → takes (f .first) s a ≡ true → takes (f .second) t b ≡ true → P (straight f))
       → ((f : Form) → List·Memᴰ f fs → takes (f .first) t b ≡ true → takes (f .second) s a ≡ true → P (crossed f))
-      → P (choose way fs s a t b)
+      → P (choose either-way fs s a t b)
   choose-has [] x y = n
   choose-has (f ∷ fs) x y = go _ _ refl refl (choose-has fs (λ h m. x h (List·Memᴰ·tail m)) (λ h m. y h (List·Memᴰ·tail m)))
     where
       go : (i j : Bool) → both (takes (f .first) s a) (takes (f .second) t b) ≡ i
-          → both way (both (takes (f .first) t b) (takes (f .second) s a)) ≡ j
-          → P (choose way fs s a t b) → P (pick i (straight f) (pick j (crossed f) (choose way fs s a t b)))
+          → both either-way (both (takes (f .first) t b) (takes (f .second) s a)) ≡ j
+          → P (choose either-way fs s a t b) → P (pick i (straight f) (pick j (crossed f) (choose either-way fs s a t b)))
       go true j d e h =
           let (k, l) = both-true (takes (f .first) s a) (takes (f .second) t b) d in
           x f (List·Memᴰ·head refl) k l
       go false true d e h =
-          let (k, l) = both-true (takes (f .first) t b) (takes (f .second) s a) (both-true way _ e .1) in
+          let (k, l) = both-true (takes (f .first) t b) (takes (f .second) s a) (both-true either-way _ e .1) in
           y f (List·Memᴰ·head refl) k l
       go false false d e h = h
 
