@@ -35,8 +35,9 @@ pub fn main() -> ExitCode {
     let done = match words[..] {
         ["full", file] => Show::read(file).and_then(|show| measure(&show, ROUNDS, WARMING, true)),
         ["short", file] => Show::read(file).and_then(|show| measure(&show, SHORT, 0, false)),
+        ["listing", file] => Show::read(file).map(|show| show.print_listing()),
         ["work", file, side, rounds] => Show::read(file).and_then(|show| work(&show, side, rounds)),
-        _ => Err("full FILE, short FILE, or work FILE SIDE ROUNDS".to_string()),
+        _ => Err("full FILE, short FILE, listing FILE, or work FILE SIDE ROUNDS".to_string()),
     };
     match done {
         Ok(()) => ExitCode::SUCCESS,

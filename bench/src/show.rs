@@ -2,7 +2,7 @@
 
 use super::answers::{self, Run};
 use super::groups;
-use super::records::{Packed, FAR, IMM};
+use super::records::{self, Packed, FAR, IMM};
 use super::rust;
 use crate::encoder::InstructionData;
 
@@ -48,6 +48,14 @@ impl Show {
             }
         }
         Ok(())
+    }
+
+    /// The Rust's bytes as fsqlist prints them: what a machine without the Rust compares with (records.txt).
+    pub fn print_listing(&self) {
+        println!("FSQ 1 {:02X}{:02X} {}", self.file[6], self.file[5], self.records.len());
+        for (offset, string) in self.offsets.iter().zip(&self.strings) {
+            println!("{offset:04X} {} {}", string.len, records::hex(&string.bytes[..string.len]));
+        }
     }
 
     /// The records so many times over, each at its offset. The file stays.

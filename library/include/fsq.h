@@ -23,7 +23,7 @@ enum fsq_answer {
     FSQ_INVALID_OPERANDS = 1,             /* No form of the operation takes these operands. */
     FSQ_OPERAND_SIZE_NOT_SPECIFIED = 2,   /* No operand states whether a byte or a word is meant. */
     FSQ_OPERAND_SIZES_DO_NOT_MATCH = 3,   /* One operand is a byte and the other a word. */
-    FSQ_INVALID_OPERAND_SIZE = 4,         /* The operation does not take an operand of this size. */
+    FSQ_INVALID_OPERAND_SIZE = 4,         /* The operation does not take an operand of this size, or none is stated. */
     FSQ_IMMEDIATE_OUT_OF_RANGE = 5,       /* An immediate, address, port or segment is outside low to high; value has it. */
     FSQ_RELATIVE_JUMP_OUT_OF_RANGE = 6,   /* The target is too far for a short jump; value has the distance. */
     FSQ_NOT_SUPPORTED = 7,                /* The encoder does not have this instruction: INT1 or ESC. */
@@ -33,7 +33,7 @@ enum fsq_answer {
     FSQ_NOT_COMPLETE = 11,                /* The bytes are the front of an instruction, and more are needed. */
     FSQ_NO_MARK = 12,                     /* The file does not begin with "FSQ". */
     FSQ_WRONG_VERSION = 13,               /* The file's version is not 1. */
-    FSQ_WRONG_LENGTH = 14,                /* The file or the record is shorter or longer than it says. */
+    FSQ_WRONG_LENGTH = 14,                /* The file is not as long as its count says, the count is above 1,000, or a record has not 56 bytes. */
     FSQ_UNKNOWN_CODE = 15                 /* A record has an operation, kind, size or jump kind that does not exist. */
 };
 

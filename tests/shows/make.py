@@ -191,6 +191,9 @@ def cases():
     for length in range(3, 9):
         yield f'bytes-{length}', [f'cut {length}', 'refused 14 -']
     yield 'mark-before-length', ['mark 46 53 50', 'cut 4', 'refused 12 -']
+    yield 'mark-before-version', ['mark 46 53 50', 'version 2', 'refused 12 -']
+    yield 'nine-bytes-before-version', ['version 2', 'cut 8', 'refused 14 -']
+    yield 'the-first-unknown', [MOV, *REFUSED[15], *REFUSED[15]]
     for version in (0, 2, 257, 65535):
         yield f'version-{version}', [f'version {version}', AAM, 'refused 13 -']
     yield 'version-before-count', ['version 2', 'count 2', AAM, 'refused 13 -']

@@ -1,4 +1,4 @@
--- Distances of branches (document 01, 'Code list', last paragraph, and the values of refusal 6).
+-- Distances of branches (REFERENCE 5).
 -- Definitions only.
 use Prim.Native.Nat.{ℕ, _+_, _-_}
 use lib.Dec.{ltb}

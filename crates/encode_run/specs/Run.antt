@@ -1,4 +1,4 @@
--- A run of bytes and what an emitter makes of it (document 01, 'Byte run').
+-- A run of bytes and what an emitter makes of it (REFERENCE 4).
 -- Definitions only.
 use Prim.Native.Nat.{ℕ, _+_}
 use mathlib.Core.List.{List, [], _∷_}

@@ -1,4 +1,4 @@
-// A run of bytes and its emitter (document 01, 'Byte run'): the Rust's ByteEmitter, lent to whoever writes.
+// A run of bytes and its emitter (REFERENCE 4): the Rust's ByteEmitter, lent to whoever writes.
 ghost use mathlib.Core.Path.{_≡_};
 ghost use Rattle.encode_run.specs.Run.{emptyRun, pushed};
 

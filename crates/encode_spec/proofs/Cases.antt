@@ -10,16 +10,19 @@ use Rattle.mrc_compiler.specs.declared.ast.OptionDataSize.{OptionDataSize}
 use Rattle.mrc_compiler.specs.declared.ast.OptionDataSize.the-variants as OD
 use Rattle.mrc_compiler.specs.declared.ast.DataSize.the-variants as D
 use Rattle.mrc_compiler.specs.declared.ast.OptionSegment.the-variants as OG
+use Rattle.mrc_compiler.specs.declared.encoder.EncodeError.{EncodeError}
 use Rattle.mrc_compiler.specs.declared.encoder.EncodeError.the-variants as E
+use Rattle.mrc_compiler.specs.declared.encoder.Encoded.the-variants as N
 use Rattle.mrc_compiler.specs.declared.encoder.InstructionData.{InstructionData}
 use Rattle.mrc_compiler.specs.declared.encoder.JumpKind.{JumpKind}
 use Rattle.mrc_compiler.specs.declared.encoder.JumpKind.the-variants as J
+use Rattle.mrc_compiler.specs.declared.encoder.OperandKind.the-variants as K
 use Rattle.mrc_compiler.specs.declared.encoder.OperandData.{OperandData}
 use Rattle.mrc_compiler.specs.declared.encoder.OperandSize.the-variants as S
 use Rattle.mrc_compiler.specs.declared.operations.Operation.{Operation}
 use Rattle.mrc_compiler.specs.declared.operations.Operation.the-variants as Op
 use Rattle.mrc_compiler.specs.Operations.{numberOf}
-use Rattle.mrc_compiler.specs.Builders.{immediateOperand, farOperand, registerOperand, directOperand, indirectOperand, noOperands, oneOperand, twoOperands}
+use Rattle.mrc_compiler.specs.Builders.{immediateOperand, farOperand, registerOperand, segmentOperand, directOperand, indirectOperand, instruction, noOperands, oneOperand, twoOperands}
 use Rattle.x86.specs.Forms.{forms}
 use Rattle.x86.specs.Reading.{prefix}
 use Rattle.encode_spec.specs.WellFormed.{wellFormed}
@@ -27,7 +30,7 @@ use Rattle.encode_groups.specs.Grouping.{groupedOf}
 use Rattle.encode_spec.specs.Choice.{formsOf}
 use Rattle.encode_spec.specs.Layout.{layout}
 use Rattle.encode_spec.specs.Questions.{questions}
-use Rattle.encode_spec.specs.Answer.{bytes, refused, answer}
+use Rattle.encode_spec.specs.Answer.{bytes, refused, answer, outcome, sliceAfter}
 
 -- spans that tell the instruction and its operands apart
 abbrev whole : Span
@@ -260,3 +263,100 @@ rows off = record {
   int1 = refl;
   esc = refl;
 }
+
+-- ---- which question comes first, where a record fails two
+-- not well formed: no register has the number 8
+abbrev bad : Span → OperandData
+bad s = registerOperand s 8 S.Word
+
+-- an immediate that states the size of a word
+abbrev word : Span → ℤ → OperandData
+word s z = record {
+  span = s;
+  kind = K.Imm;
+  size = S.Word;
+  «segment_prefix» = 0;
+  displacement = pos 0;
+  «displacement_size» = S.Unspecified;
+  mode = 0;
+  rm = 0;
+  imm = z;
+  «jmp_kind» = J.None;
+}
+
+record Order : Type 0 where
+  -- question 1: the count, the first operand, the second, used or not
+  count-3 : answer (instruction whole Op.AAM 3 ax ax) 0 ≡ refused (E.NotWellFormed whole)
+  first-operand : answer (withTwo Op.ADD (bad one) (immediate (pos 5))) 0 ≡ refused (E.NotWellFormed one)
+  unused-operand : answer (withTwo Op.AAM ax (bad two)) 0 ≡ refused (E.NotWellFormed two)
+  count-before-operand : answer (instruction whole Op.AAM 3 (bad one) (bad two)) 0 ≡ refused (E.NotWellFormed whole)
+  first-before-second : answer (withTwo Op.ADD (bad one) (bad two)) 0 ≡ refused (E.NotWellFormed one)
+  -- 8 before the others
+  eight-before-7 : answer (withOne Op.INT1 (bad one)) 0 ≡ refused (E.NotWellFormed one)
+  eight-before-2 : answer (withTwo Op.ADD (bx one OD.None) (registerOperand two 8 S.Unspecified)) 0 ≡ refused (E.NotWellFormed two)
+  eight-before-4 : answer (withOne Op.INC (indirectOperand one 8 (pos 0) OD.None OG.None)) 0 ≡ refused (E.NotWellFormed one)
+  eight-before-3 : answer (withTwo Op.ADD al (bad two)) 0 ≡ refused (E.NotWellFormed two)
+  eight-before-1 : answer (withOne Op.POP (segmentOperand one 5)) 0 ≡ refused (E.NotWellFormed one)
+  eight-before-5 : answer (instruction whole Op.MOV 3 al (immediate (pos 300))) 0 ≡ refused (E.NotWellFormed whole)
+  eight-before-6 : answer (instruction whole Op.JE 3 (immediateOperand one (pos 130)) (immediate (pos 0))) 0 ≡ refused (E.NotWellFormed whole)
+  -- 7 before the sizes and the form
+  seven-before-3 : answer (withTwo Op.ESC al ax) 0 ≡ refused (E.NotSupported whole)
+  seven-before-1 : answer (withOne Op.INT1 (segmentOperand one 3)) 0 ≡ refused (E.NotSupported whole)
+  -- the stated size before the form and the range
+  two-before-1 : answer (withTwo Op.ADD (bx one OD.None) (bx two OD.None)) 0 ≡ refused (E.OperandSizeNotSpecified whole)
+  two-before-5 : answer (withTwo Op.ADD (bx one OD.None) (immediate (pos 70000))) 0 ≡ refused (E.OperandSizeNotSpecified whole)
+  four-before-1 : answer (withOne Op.POP (registerOperand one 0 S.Unspecified)) 0 ≡ refused (E.InvalidOperandSize one)
+  -- equal sizes before the form and the range
+  three-before-1 : answer (withTwo Op.ADD al (segmentOperand two 3)) 0 ≡ refused (E.OperandSizesDoNotMatch whole)
+  three-before-5 : answer (withTwo Op.ADD al (word two (pos 70000))) 0 ≡ refused (E.OperandSizesDoNotMatch whole)
+  -- the form before the range and the distance
+  one-before-5 : answer (withTwo Op.IN (registerOperand one 3 S.Word) (immediate (pos 256))) 0 ≡ refused (E.InvalidOperands whole)
+  four-before-5 : answer (withOne Op.POP (word one (pos 70000))) 0 ≡ refused (E.InvalidOperandSize one)
+  one-before-6 : answer (withOne Op.JE (targetOf J.Far (pos 300))) 0 ≡ refused (E.InvalidOperands one)
+  -- the range before the distance
+  five-before-6 : answer (withOne Op.JMP (targetOf J.Short (pos 65536))) 0 ≡ refused (E.ImmediateOutOfRange one (pos 65536) (pos 0) (pos 65535))
+
+order : Order
+unfolding wellFormed answer questions prefix groupedOf formsOf forms numberOf layout
+order = record {
+  count-3 = refl;
+  first-operand = refl;
+  unused-operand = refl;
+  count-before-operand = refl;
+  first-before-second = refl;
+  eight-before-7 = refl;
+  eight-before-2 = refl;
+  eight-before-4 = refl;
+  eight-before-3 = refl;
+  eight-before-1 = refl;
+  eight-before-5 = refl;
+  eight-before-6 = refl;
+  seven-before-3 = refl;
+  seven-before-1 = refl;
+  two-before-1 = refl;
+  two-before-5 = refl;
+  four-before-1 = refl;
+  three-before-1 = refl;
+  three-before-5 = refl;
+  one-before-5 = refl;
+  four-before-5 = refl;
+  one-before-6 = refl;
+  five-before-6 = refl;
+}
+
+-- ---- question 8: the lent slice, and which refusal comes first
+abbrev shown : Span
+shown = record { start = 3; end = 9 }
+
+record Slices (e : EncodeError) : Type 0 where
+  short : outcome (bytes (1 ∷ 2 ∷ [])) shown (7 ∷ []) ≡ N.Refused (E.SliceTooShort shown)
+  short-stays : sliceAfter (bytes (1 ∷ 2 ∷ [])) (7 ∷ []) ≡ 7 ∷ []
+  exact : outcome (bytes (1 ∷ 2 ∷ [])) shown (7 ∷ 8 ∷ []) ≡ N.Length 2
+  exact-after : sliceAfter (bytes (1 ∷ 2 ∷ [])) (7 ∷ 8 ∷ []) ≡ 1 ∷ 2 ∷ []
+  longer-after : sliceAfter (bytes (1 ∷ 2 ∷ [])) (7 ∷ 8 ∷ 9 ∷ []) ≡ 1 ∷ 2 ∷ 9 ∷ []
+  -- another refusal before 9
+  refused-first : outcome (refused e) shown [] ≡ N.Refused e
+  refused-stays : sliceAfter (refused e) (7 ∷ []) ≡ 7 ∷ []
+
+slices : (e : EncodeError) → Slices e
+slices e = record { short = refl; short-stays = refl; exact = refl; exact-after = refl; longer-after = refl; refused-first = refl; refused-stays = refl }

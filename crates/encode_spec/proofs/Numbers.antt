@@ -1,4 +1,4 @@
--- Which refusals a question gives (document 01, 'Questions at the gate'): the number of each question against the number of its refusal.
+-- Which refusals a question gives (REFERENCE 5): the number of each question against the number of its refusal.
 -- Assumes nothing.
 use mathlib.Core.Path.{_≡_, refl, ap, _∙_}
 use mathlib.Core.Bool.{Bool, true, false}
@@ -61,6 +61,13 @@ number-is W.NotSupported at insn = refl
 
 abbrev fine : Ask → Type 0
 fine q = gives (q .number) (numberFor (q .why)) ≡ true
+
+-- the size is question 3's, whatever a group asks of it: 4 is a refusal of 3 and of 5
+pub stated-is-3 : (s : Sizing) (a b : OperandData) → statedBy s a b .number ≡ 3
+stated-is-3 unasked a b = refl
+stated-is-3 either-states a b = refl
+stated-is-3 (first-states why at) a b = refl
+stated-is-3 first-is-word a b = refl
 
 -- question 3 has refusal 2 or 4 where the first operand is asked
 abbrev sizes : Sizing → Bool

@@ -1,4 +1,4 @@
--- Which form is written (document 01, 'Code list', and question 5): of the operation's forms the first that takes the operands.
+-- Which form is written (REFERENCE 4 and 5): of the operation's forms the first that takes the operands.
 -- Definitions only.
 use Prim.Native.Nat.{ℕ}
 use mathlib.Core.Bool.{Bool, true, false}

@@ -1,4 +1,4 @@
--- The instruction that a record means, by the record alone (document 01, 'Same instruction'). A near target is the record's immediate, so it
+-- The instruction that a record means, by the record alone (REFERENCE 6). A near target is the record's immediate, so it
 -- is the same at every offset.
 -- Definitions only.
 use Prim.Native.Nat.{ℕ}

@@ -1,4 +1,4 @@
--- How an operand of a record counts (document 01, 'Same instruction'), and tests on it.
+-- How an operand of a record counts (REFERENCE 6), and tests on it.
 -- Definitions only.
 use mathlib.Core.Bool.{Bool, true, false}
 use lib.IntN.{pos}

@@ -1,4 +1,4 @@
--- The encoder's questions in their order, each with its refusal (document 01, 'Questions at the gate').
+-- The encoder's questions in their order, each with its refusal (REFERENCE 5).
 -- Definitions only.
 use Prim.Native.Nat.{ℕ}
 use mathlib.Core.Bool.{Bool, true, false}

@@ -1,4 +1,4 @@
--- Well-formed operands (document 01, 'Operand').
+-- Well-formed operands (REFERENCE 3).
 -- Definitions only.
 use Prim.Native.Nat.{ℕ}
 use mathlib.Core.Bool.{Bool, true, false}

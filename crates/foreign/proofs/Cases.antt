@@ -1,11 +1,20 @@
--- Reports of the loader's answers, byte by byte.
+-- What crosses, byte by byte: reports of the loader's answers and of the lister's refusals, and a read instruction with each extension and kind of operand.
 -- Assumes nothing.
 use mathlib.Core.Path.{_≡_, refl}
 use mathlib.Core.Bool.{true}
-use mathlib.Core.List.{[], _∷_, _++_}
+use mathlib.Core.List.{List, [], _∷_, _++_}
+use Prim.Native.Nat.{ℕ}
 use lib.IntN.{negsuc}
+use lib.ListN.{replicate}
+use Rattle.mrc_compiler.specs.declared.ast.Segment.the-variants as G
 use Rattle.mrc_compiler.specs.declared.encoder.EncodeError.the-variants as E
 use Rattle.mrc_compiler.specs.declared.encoder.OperandSize.the-variants as S
+use Rattle.mrc_compiler.specs.declared.operations.Operation.the-variants as Op
+use Rattle.mrc_compiler.specs.Operations as Ops
+use Rattle.x86_forms.specs.declared.Extension.the-variants as X
+use Rattle.x86.specs.declared.Operand.the-variants as O
+use Rattle.x86.specs.Instructions.{instruction}
+use Rattle.show_record.specs.Record.{operandAt, instructionAt, operandKnown, codesKnown}
 use Rattle.show_file.specs.declared.Header.{Header}
 use Rattle.show_file.specs.declared.LoadError.{LoadError}
 use Rattle.show_file.specs.declared.LoadError.the-variants as R
@@ -13,7 +22,20 @@ use Rattle.show_file.specs.Refusals.{numberOf}
 use Rattle.show_load.specs.declared.Loaded.the-variants as L
 use Rattle.foreign_report.specs.Crossing.{u32Bytes, reportBytes}
 use Rattle.foreign_report.proofs.Cases.{span, zeros4, spanBytes, zeros12, ones4}
+use Rattle.x86_forms.specs.declared.Extension.{Extension}
+use Rattle.x86_forms.specs.declared.FormName.{FormName}
+use Rattle.x86.specs.Forms.{forms}
+use Rattle.x86.specs.Reading.{prefix}
+use Rattle.encode_groups.specs.Grouping.{groupedOf}
+use Rattle.encode_spec.specs.WellFormed.{wellFormed}
+use Rattle.encode_spec.specs.Choice.{formsOf}
+use Rattle.encode_spec.specs.Layout.{layout}
+use Rattle.encode_spec.specs.Questions.{questions}
+use Rattle.encode_spec.specs.Answer.{answer}
+use Rattle.foreign.specs.EncodeRecord.{recordOf, responseOf, responseRecord}
+use Rattle.foreign.specs.ListRecord.{responseListing}
 use Rattle.foreign.specs.LoadShow.{responseLoadError, responseLoaded}
+use Rattle.foreign.specs.ReadBytes.{operandHead, operandValues, readBytes}
 
 record Rows : Type 0 where
   image : (h : Header) → reportBytes (responseLoaded (L.Image h 7000)) ≡ (0x58 ∷ 0x1B ∷ 0 ∷ 0 ∷ []) ++ (zeros4 ++ (zeros4 ++ (zeros12 ++ ones4)))
@@ -33,3 +55,100 @@ its-number R.WrongVersion = refl
 its-number R.WrongLength = refl
 its-number (R.UnknownCode k) = refl
 its-number (R.Record k e) = refl
+
+-- ---- a record's own refusals, in fsq_encode and fsq_list
+-- an operation without operands, with the span of the rows above
+abbrev plain : ℕ → List ℕ
+plain op = (op ∷ 0 ∷ spanBytes) ++ replicate 46 0
+
+abbrev unknownKind : List ℕ
+unknownKind = (82 ∷ 1 ∷ spanBytes) ++ (4 ∷ replicate 45 0)
+
+-- a span and no values
+abbrev refusal : List ℕ
+refusal = zeros4 ++ (spanBytes ++ (zeros12 ++ ones4))
+
+record Lists : Type 0 where
+  -- the record's length before its codes
+  encode-short : responseRecord (recordOf (99 ∷ replicate 54 0)) 0 [] .number ≡ 14
+  encode-unknown : responseRecord (recordOf (plain 99)) 0 [] .number ≡ 15
+  list-short : responseListing (recordOf (99 ∷ replicate 54 0)) 0 [] .number ≡ 14
+  list-long : responseListing (recordOf (plain 97 ++ (0 ∷ []))) 0 (replicate 96 0) .number ≡ 14
+  list-unknown : responseListing (recordOf (plain 99)) 0 [] .number ≡ 15
+  list-unknown-report : reportBytes (responseListing (recordOf (plain 99)) 0 []) ≡ zeros12 ++ (zeros12 ++ ones4)
+  -- INT1 with an operand of an unknown kind: 15 before 7
+  encode-unknown-kind : responseRecord (recordOf unknownKind) 0 [] .number ≡ 15
+  list-unknown-kind : responseListing (recordOf unknownKind) 0 [] .number ≡ 15
+  -- INT1: 7 before 9
+  list-refused : responseListing (recordOf (plain 82)) 0 [] .number ≡ 7
+  list-refused-report : reportBytes (responseListing (recordOf (plain 82)) 0 []) ≡ refusal
+  -- HLT: 9 in 95 bytes
+  list-95 : responseListing (recordOf (plain 93)) 0 (replicate 95 0) .number ≡ 9
+  list-95-report : reportBytes (responseListing (recordOf (plain 93)) 0 (replicate 95 0)) ≡ refusal
+  encode-0 : responseRecord (recordOf (plain 93)) 0 [] .number ≡ 9
+  encode-0-report : reportBytes (responseRecord (recordOf (plain 93)) 0 []) ≡ refusal
+
+lists : Lists
+unfolding u32Bytes responseOf recordOf codesKnown operandKnown Ops.operations instructionAt operandAt answer questions wellFormed prefix groupedOf formsOf forms Ops.numberOf layout
+lists = record {
+  encode-short = refl;
+  encode-unknown = refl;
+  list-short = refl;
+  list-long = refl;
+  list-unknown = refl;
+  list-unknown-report = refl;
+  encode-unknown-kind = refl;
+  list-unknown-kind = refl;
+  list-refused = refl;
+  list-refused-report = refl;
+  list-95 = refl;
+  list-95-report = refl;
+  encode-0 = refl;
+  encode-0-report = refl;
+}
+
+-- ---- a read instruction, byte by byte: each extension, kind of operand, width and segment
+abbrev zeros8 : List ℕ
+zeros8 = zeros4 ++ zeros4
+
+abbrev named : ℕ → Extension → FormName
+named c e = record { opcode = c; extension = e }
+
+record Reads : Type 0 where
+  push-bx : readBytes (instruction Op.PUSH S.Word (O.Register 3) O.None) (named 0x50 X.PlusRegister) 1
+      ≡ (1 ∷ 1 ∷ 2 ∷ 0x50 ∷ 1 ∷ 0 ∷ 0 ∷ 0 ∷ []) ++ ((1 ∷ 3 ∷ 0 ∷ 0 ∷ 0 ∷ 0 ∷ 0 ∷ 0 ∷ []) ++ zeros8)
+  push-ss : readBytes (instruction Op.PUSH S.Word (O.SegmentRegister 2) O.None) (named 0x06 X.PlusSegment) 1
+      ≡ (1 ∷ 1 ∷ 2 ∷ 0x06 ∷ 2 ∷ 0 ∷ 0 ∷ 0 ∷ []) ++ ((2 ∷ 2 ∷ 0 ∷ 0 ∷ 0 ∷ 0 ∷ 0 ∷ 0 ∷ []) ++ zeros8)
+  mov-cl-cs : readBytes (instruction Op.MOV S.Byte (O.Register 1) (O.Memory 7 0x1234 G.CS)) (named 0x8A X.ModRm) 5
+      ≡ (5 ∷ 0 ∷ 1 ∷ 0x8A ∷ 3 ∷ 0 ∷ 0 ∷ 0 ∷ []) ++ ((1 ∷ 1 ∷ 0 ∷ 0 ∷ 0 ∷ 0 ∷ 0 ∷ 0 ∷ []) ++ (3 ∷ 7 ∷ 1 ∷ 0 ∷ 0x34 ∷ 0x12 ∷ 0 ∷ 0 ∷ []))
+  mov-es : readBytes (instruction Op.MOV S.Byte (O.Memory 8 0x1234 G.ES) (O.Register 0)) (named 0xA2 X.None) 4
+      ≡ (4 ∷ 0 ∷ 1 ∷ 0xA2 ∷ 0 ∷ 0 ∷ 0 ∷ 0 ∷ []) ++ ((3 ∷ 8 ∷ 0 ∷ 0 ∷ 0x34 ∷ 0x12 ∷ 0 ∷ 0 ∷ []) ++ (1 ∷ 0 ∷ 0 ∷ 0 ∷ 0 ∷ 0 ∷ 0 ∷ 0 ∷ []))
+  not-bp : readBytes (instruction Op.NOT S.Word (O.Memory 6 0xFFFE G.SS) O.None) (named 0xF7 (X.Digit 2)) 3
+      ≡ (3 ∷ 34 ∷ 2 ∷ 0xF7 ∷ 10 ∷ 0 ∷ 0 ∷ 0 ∷ []) ++ ((3 ∷ 6 ∷ 2 ∷ 0 ∷ 0xFE ∷ 0xFF ∷ 0 ∷ 0 ∷ []) ++ zeros8)
+  not-bx : readBytes (instruction Op.NOT S.Word (O.Memory 7 0 G.DS) O.None) (named 0xF7 (X.Digit 2)) 2
+      ≡ (2 ∷ 34 ∷ 2 ∷ 0xF7 ∷ 10 ∷ 0 ∷ 0 ∷ 0 ∷ []) ++ ((3 ∷ 7 ∷ 3 ∷ 0 ∷ 0 ∷ 0 ∷ 0 ∷ 0 ∷ []) ++ zeros8)
+  mov-ax : readBytes (instruction Op.MOV S.Word (O.Register 0) (O.Immediate 0x1234)) (named 0xB8 X.PlusRegister) 3
+      ≡ (3 ∷ 0 ∷ 2 ∷ 0xB8 ∷ 1 ∷ 0 ∷ 0 ∷ 0 ∷ []) ++ ((1 ∷ 0 ∷ 0 ∷ 0 ∷ 0 ∷ 0 ∷ 0 ∷ 0 ∷ []) ++ (4 ∷ 0 ∷ 0 ∷ 0 ∷ 0x34 ∷ 0x12 ∷ 0 ∷ 0 ∷ []))
+  aam : readBytes (instruction Op.AAM S.Unspecified O.None O.None) (named 0xD4 X.Second0A) 2 ≡ (2 ∷ 28 ∷ 0 ∷ 0xD4 ∷ 4 ∷ 0 ∷ 0 ∷ 0 ∷ []) ++ (zeros8 ++ zeros8)
+  sar-cx : readBytes (instruction Op.SAR S.Word (O.Register 1) O.One) (named 0xD1 (X.Digit 7)) 2
+      ≡ (2 ∷ 37 ∷ 2 ∷ 0xD1 ∷ 15 ∷ 0 ∷ 0 ∷ 0 ∷ []) ++ ((1 ∷ 1 ∷ 0 ∷ 0 ∷ 0 ∷ 0 ∷ 0 ∷ 0 ∷ []) ++ (7 ∷ 0 ∷ 0 ∷ 0 ∷ 0 ∷ 0 ∷ 0 ∷ 0 ∷ []))
+  call-near : readBytes (instruction Op.CALL S.Unspecified (O.Near 0x1234) O.None) (named 0xE8 X.None) 3
+      ≡ (3 ∷ 58 ∷ 0 ∷ 0xE8 ∷ 0 ∷ 0 ∷ 0 ∷ 0 ∷ []) ++ ((5 ∷ 0 ∷ 0 ∷ 0 ∷ 0x34 ∷ 0x12 ∷ 0 ∷ 0 ∷ []) ++ zeros8)
+  jmp-far : readBytes (instruction Op.JMP S.Unspecified (O.Far 0x1234 0x5678) O.None) (named 0xEA X.None) 5
+      ≡ (5 ∷ 59 ∷ 0 ∷ 0xEA ∷ 0 ∷ 0 ∷ 0 ∷ 0 ∷ []) ++ ((6 ∷ 0 ∷ 0 ∷ 0 ∷ 0x34 ∷ 0x12 ∷ 0x78 ∷ 0x56 ∷ []) ++ zeros8)
+
+reads : Reads
+unfolding u32Bytes operandHead operandValues Ops.numberOf
+reads = record {
+  push-bx = refl;
+  push-ss = refl;
+  mov-cl-cs = refl;
+  mov-es = refl;
+  not-bp = refl;
+  not-bx = refl;
+  mov-ax = refl;
+  aam = refl;
+  sar-cx = refl;
+  call-near = refl;
+  jmp-far = refl;
+}

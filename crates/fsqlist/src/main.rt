@@ -1,4 +1,4 @@
-// Lists a show file: reads it from standard input and prints its text (document 01, 'Show file').
+// Lists a show file: reads it from standard input and prints its text (REFERENCE 9).
 ghost use lib.ListN.{length};
 ghost use Prim.Native.Nat.{_≤_};
 use libc::STDIN_FILENO;

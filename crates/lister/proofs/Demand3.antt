@@ -19,10 +19,11 @@ use Rattle.encode_spec.specs.Answer.{Answer, bytes, refused, answer}
 use Rattle.list_spec.specs.Entries.{entry, entries, listing}
 use Rattle.list_spec.specs.Demand3.{Lists}
 use Rattle.list_spec.proofs.Order.{entry-length}
+use Rattle.list_spec.proofs.Exact.{listing-is}
 use Rattle.list_spec.proofs.Accepted.{accepted-lists}
 use Rattle.lister.specs.declared.Listed.the-variants as N
 use Rattle.lister.specs.Listing.{listed, outcome, sliceAfter}
-use Rattle.lister.specs.Demand3.{entryAt, Listed3}
+use Rattle.lister.specs.Demand3.{entryAt, Listed3, IsTheirNumber}
 
 -- ---- entries one behind the other
 -- each string of a list has at most seven bytes
@@ -122,6 +123,18 @@ module _ (insn : InstructionData) (off : ℕ) (s : List ℕ) where
   pub counted-lists : off < 65536 → (n : ℕ) → outcome (answer insn off) insn off s ≡ N.Count n
       → (bs : List ℕ) × (answer insn off ≡ bytes bs) × Listed3 insn off n bs s (sliceAfter (answer insn off) insn off s)
   counted-lists h = counted-by h (answer insn off) refl
+
+  number-by : off < 65536 → (a : Answer) (n : ℕ) → outcome a insn off s ≡ N.Count n → IsTheirNumber insn off n
+  number-by h (refused e) n o = absurd (not-both o)
+  number-by h (bytes bs) n o = go (leb 96 (length s)) o
+    where
+      go : (t : Bool) → pick t (N.Count (length (listed insn off))) (N.Refused (E.SliceTooShort (insn .«opers_span»))) ≡ N.Count n → IsTheirNumber insn off n
+      go false o = absurd (not-both o)
+      go true o = (listed insn off, listing-is off (meaning insn) h, (cc))
+
+  -- the count is the number of these strings
+  pub count-is : off < 65536 → (n : ℕ) → outcome (answer insn off) insn off s ≡ N.Count n → IsTheirNumber insn off n
+  count-is h = number-by h (answer insn off)
 
   -- for every accepted record and every slice of at least 96 bytes it does
   pub accepted-counts : (bs : List ℕ) → answer insn off ≡ bytes bs → 96 ≤ length s

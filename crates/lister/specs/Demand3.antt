@@ -5,7 +5,7 @@ use mathlib.Core.Path.{_≡_}
 use mathlib.Core.List.{List}
 use lib.ListN.{length, take, drop}
 use Rattle.mrc_compiler.specs.declared.encoder.InstructionData.{InstructionData}
-use Rattle.x86.specs.Listing.{Bytes, ReadsAs, Before}
+use Rattle.x86.specs.Listing.{Bytes, ReadsAs, Before, IsListing}
 use Rattle.encode_spec.specs.Meaning.{meaning}
 use Rattle.list_spec.specs.Entries.{entry}
 
@@ -36,3 +36,7 @@ pub record Listed3 (insn : InstructionData) (off n : ℕ) (bs before after : Lis
   pub own : StandsIn bs n after
   pub rest : drop (8 * n) after ≡ drop (8 * n) before
   pub few : n ≤ 12
+
+-- n is the number of the strings of 1 to 7 bytes that read as the record's instruction: all of them, each once, make a list of n
+abbrev pub IsTheirNumber : InstructionData → ℕ → ℕ → Type 0
+IsTheirNumber insn off n = (l : List (List ℕ)) × IsListing off (meaning insn) l × (n ≡ length l)

@@ -1,4 +1,4 @@
--- What list answers to a record at an offset, and what it leaves in the lent slice (document 01, 'Listing').
+-- What list answers to a record at an offset, and what it leaves in the lent slice (REFERENCE 7).
 -- Definitions only.
 use Prim.Native.Nat.{ℕ, _*_}
 use mathlib.Core.List.{List, [], _++_}

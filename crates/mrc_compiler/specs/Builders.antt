@@ -1,4 +1,4 @@
--- What the builders of 000 make (document 01, 'Operand' and 'Instruction'). They are the only place that makes a record.
+-- What the builders of 000 make (REFERENCE 2).
 -- Definitions only.
 use Prim.Native.Nat.{ℕ, _+_, _*_}
 use mathlib.Core.Bool.{Bool, true, false}

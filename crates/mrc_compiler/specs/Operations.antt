@@ -1,4 +1,4 @@
--- The operations and their numbers: the place, from 0, in 002 (document 01, 'Operation').
+-- The operations and their numbers: the place, from 0, in 002 (REFERENCE 2).
 -- Definitions only.
 use Prim.Native.Nat.{ℕ}
 use mathlib.Core.Bool.{Bool}

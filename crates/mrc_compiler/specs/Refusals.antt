@@ -1,4 +1,4 @@
--- The encoder's refusals: document 01's number, span and values for each case ('Questions at the gate', last paragraph).
+-- The encoder's refusals: the number, span and values of each case (REFERENCE 5).
 -- Definitions only.
 use Prim.Native.Nat.{ℕ}
 use lib.IntN.{ℤ}

@@ -41,7 +41,7 @@ withForm R.More f = More
 unfoldable pub decoded : ℕ → List ℕ → Decoded
 decoded off s = withForm (reads off s) (formOf s)
 
--- document 01's number ('Questions at the gate', reader); none for an instruction
+-- the refusal's number (REFERENCE 6); none for an instruction
 abbrev pub refusalOf : Decoded → Refusal
 refusalOf (Whole m f n) = N.None
 refusalOf Nothing = N.Is 10

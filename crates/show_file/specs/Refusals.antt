@@ -1,4 +1,4 @@
--- The refusals of a show file (document 01, 'Show file').
+-- The refusals of a show file (REFERENCE 8).
 -- Definitions only.
 use Prim.Native.Nat.{ℕ}
 use Rattle.mrc_compiler.specs.Refusals.{reportOf}

@@ -1,4 +1,4 @@
--- The show file: mark, version, origin, count, then the records (document 01, 'Show file').
+-- The show file: mark, version, origin, count, then the records (REFERENCE 8).
 -- Definitions only.
 use Prim.Native.Nat.{ℕ, zero, suc, _+_, _*_}
 use mathlib.Core.Bool.{Bool}

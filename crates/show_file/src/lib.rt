@@ -1,4 +1,4 @@
-// The show file: its header and records, and the questions about the file itself (document 01, 'Show file').
+// The show file: its header and records, and the questions about the file itself (REFERENCE 8).
 ghost use mathlib.Core.Path.{_≡_};
 ghost use Prim.Native.Nat.{_<_, _≤_};
 ghost use lib.ListN.{length};

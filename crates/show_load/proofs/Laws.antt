@@ -126,12 +126,15 @@ module _ (file : List ℕ) (origin k at : ℕ) (u : Upto file origin k at) where
 
   -- where the first n are accepted
   module _ (n : ℕ) (t : isAll (walk file origin n) ≡ true) (h : k < n) where
-    pub step-all : Step file origin k at
-    step-all = go (answerAt file origin k at) refl
+    pub answered-all : (cs : List ℕ) × (answerAt file origin k at ≡ bytes cs)
+    answered-all = go (answerAt file origin k at) refl
       where
-        go : (a : Answer) → answerAt file origin k at ≡ a → Step file origin k at
-        go (bytes cs) e = step-bytes cs e
+        go : (a : Answer) → answerAt file origin k at ≡ a → (cs : List ℕ) × (answerAt file origin k at ≡ bytes cs)
+        go (bytes cs) e = (cs, e)
         go (refused x) e = absurd (all-not-stopped t (step-stops x e n h))
+
+    pub step-all : Step file origin k at
+    step-all = step-bytes (answered-all .0) (answered-all .1)
 
 -- where they are, no later record ends earlier
 grows : (file : List ℕ) (origin n j k at : ℕ) → Upto file origin k at → isAll (walk file origin n) ≡ true → n ≡ k + j → at ≤ length (bytesIn (walk file origin n))
@@ -251,7 +254,7 @@ pub record Accepted (file : List ℕ) (h : Header) (n : ℕ) : Type 0 where
   pub all-in : isAll (walk file (h .origin) (h .count)) ≡ true
   pub size : n ≡ length (bytesIn (walk file (h .origin) (h .count)))
 
-refused-image : {x : LoadError} {h : Header} {n : ℕ} → L.Refused x ≡ L.Image h n → ⊥
+pub refused-image : {x : LoadError} {h : Header} {n : ℕ} → L.Refused x ≡ L.Image h n → ⊥
 refused-image e = let z : _≡_ {A = ℕ} 0 1 = cc in omega arith
 
 module _ (file : List ℕ) (h : Header) (n : ℕ) where

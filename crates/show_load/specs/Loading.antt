@@ -1,4 +1,4 @@
--- What loading a show file answers, and what it leaves in the image (document 01, 'Show file' and the loader's questions).
+-- What loading a show file answers, and what it leaves in the image (REFERENCE 8).
 -- Definitions only.
 use Prim.Native.Nat.{ℕ, zero, suc, _+_, _%_}
 use mathlib.Core.Bool.{Bool, true, false}

@@ -1,4 +1,4 @@
-// The loader: a show file becomes the image of its records (document 01, 'Show file').
+// The loader: a show file becomes the image of its records (REFERENCE 8).
 ghost use mathlib.Core.Path.{_≡_};
 ghost use mathlib.Core.Bool.{true};
 ghost use mathlib.Core.List.{_++_};

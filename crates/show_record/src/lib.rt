@@ -1,4 +1,4 @@
-// A record of a show file becomes an instruction (document 01, 'Show file').
+// A record of a show file becomes an instruction (REFERENCE 8).
 ghost use mathlib.Core.Path.{_≡_};
 ghost use Prim.Native.Nat.{_+_, _≤_};
 ghost use lib.ListN.{length, getD};

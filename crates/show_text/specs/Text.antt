@@ -1,4 +1,4 @@
--- The text of a show file, which `fsqlist` prints (document 01, 'Show file'), in ASCII.
+-- The text of a show file, which `fsqlist` prints (REFERENCE 9), in ASCII.
 -- Definitions only.
 use Prim.Native.Nat.{ℕ, zero, suc, _+_, _*_, _/_, _%_}
 use mathlib.Core.List.{List, [], _∷_, _++_}

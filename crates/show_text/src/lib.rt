@@ -1,4 +1,4 @@
-// The text of a show file: the first line and a line for each record, or the refusal (document 01, 'Show file').
+// The text of a show file: the first line and a line for each record, or the refusal (REFERENCE 9).
 ghost use mathlib.Core.Path.{_≡_};
 ghost use mathlib.Core.Bool.{true};
 ghost use mathlib.Core.List.{_++_};

@@ -252,6 +252,7 @@ pub record Same (off : ℕ) : Type 0 where
   -- memory: segment in effect, SS for rm 2, 3 and for rm 6 with mode 1 or 2, else DS
   pub segment-ds : Equal off (0x3E ∷ 0x8B ∷ 0x07 ∷ []) off (0x8B ∷ 0x07 ∷ [])
   pub segment-bp : Equal off (0x36 ∷ 0x8B ∷ 0x46 ∷ 0x00 ∷ []) off (0x8B ∷ 0x46 ∷ 0x00 ∷ [])
+  pub segment-bp-word : Equal off (0x36 ∷ 0x8B ∷ 0x86 ∷ 0x00 ∷ 0x00 ∷ []) off (0x8B ∷ 0x86 ∷ 0x00 ∷ 0x00 ∷ [])
   pub segment-bp-si : Equal off (0x36 ∷ 0x8B ∷ 0x02 ∷ []) off (0x8B ∷ 0x02 ∷ [])
   pub segment-bp-di : Equal off (0x36 ∷ 0x8B ∷ 0x03 ∷ []) off (0x8B ∷ 0x03 ∷ [])
   pub segment-address : Equal off (0x3E ∷ 0xA1 ∷ 0x34 ∷ 0x12 ∷ []) off (0x8B ∷ 0x06 ∷ 0x34 ∷ 0x12 ∷ [])
@@ -387,6 +388,7 @@ same off =
       );
       segment-ds = (instruction Op.MOV S.Word (O.Register 0) (O.Memory 7 0 G.DS), refl, refl);
       segment-bp = (instruction Op.MOV S.Word (O.Register 0) (O.Memory 6 0 G.SS), refl, refl);
+      segment-bp-word = (instruction Op.MOV S.Word (O.Register 0) (O.Memory 6 0 G.SS), refl, refl);
       segment-bp-si = (instruction Op.MOV S.Word (O.Register 0) (O.Memory 2 0 G.SS), refl, refl);
       segment-bp-di = (instruction Op.MOV S.Word (O.Register 0) (O.Memory 3 0 G.SS), refl, refl);
       segment-address = (instruction Op.MOV S.Word (O.Register 0) (O.Memory 8 0x1234 G.DS), refl, refl);

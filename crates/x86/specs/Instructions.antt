@@ -1,4 +1,4 @@
--- 'Same instruction' (document 01, 'Read instruction'): the canonical instruction, such that equality is sameness.
+-- 'Same instruction' (REFERENCE 6): the canonical instruction, such that equality is sameness.
 -- Definitions only.
 use Prim.Native.Nat.{ℕ}
 use mathlib.Core.Bool.{Bool, true, false}

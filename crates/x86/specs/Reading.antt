@@ -1,4 +1,4 @@
--- What the forms read at the front of some bytes (document 01, 'Read instruction' and the reader's two questions).
+-- What the forms read at the front of some bytes (REFERENCE 6).
 -- Definitions only.
 use Prim.Native.Nat.{ℕ, suc, _+_, _*_, _/_, _%_}
 use mathlib.Core.Bool.{Bool, true, false}

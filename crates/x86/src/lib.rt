@@ -1,4 +1,4 @@
-// An instruction as it counts for 'same instruction' (document 01, 'Read instruction'), and what a reading gives.
+// An instruction as it counts for 'same instruction' (REFERENCE 6), and what a reading gives.
 ghost use mathlib.Core.Path.{_≡_};
 ghost use Prim.Native.Nat.{_<_};
 ghost use Rattle.x86.specs.Reading.{displacementLength};

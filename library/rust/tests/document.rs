@@ -212,6 +212,13 @@ fn spans_come_back() {
     assert_eq!(encode(&ret, 0).unwrap_err().span, Some(0..6));
     let ret = Instruction::one(RET, Operand::from(-1).at(4..6)).at(0..6);
     assert_eq!(encode(&ret, 0).unwrap_err().span, Some(4..6));
+
+    // The lister and the loader give the same ones.
+    assert_eq!(list(&add, 0).unwrap_err().span, Some(7..12));
+    assert_eq!(list(&pop, 0).unwrap_err().span, Some(0..6));
+    let refused = |instruction: &Instruction| load(&show_file(0, &[Instruction::none(NOP), instruction.clone()])).unwrap_err();
+    assert_eq!((refused(&add).record, refused(&add).span), (Some(1), Some(7..12)));
+    assert_eq!((refused(&pop).record, refused(&pop).span), (Some(1), Some(0..6)));
 }
 
 /// The header's operations are this crate's, in one order.

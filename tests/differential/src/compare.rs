@@ -1,6 +1,7 @@
 //! One record, both encoders, and the account of it.
 
 use super::answers::{self, Answer, Run};
+use super::digests::{Block, Digests, Stage, STORED};
 use super::differences::{Kind, EMITS, ENTRIES, LEFT_OPEN, PANICS, WIDER};
 use super::forms::{self, Tally};
 use super::left_open;
@@ -25,6 +26,7 @@ pub struct Comparison {
     open_refused: [u64; left_open::REFUSALS.len()],
     /// for each operation the entries that may apply to it
     entries: Vec<Vec<usize>>,
+    digests: Digests,
 }
 
 impl Comparison {
@@ -41,24 +43,74 @@ impl Comparison {
             met: vec![[0; 2]; ENTRIES.len()],
             open_refused: [0; left_open::REFUSALS.len()],
             entries: (0..OPERATIONS).map(of).collect(),
+            digests: Digests::new(),
         }
     }
 
     /// Compares where the record is well formed; where not, ours is asked alone: document 01 says what it must answer.
-    pub fn visit(&mut self, record: Record, offset: u16) {
-        let record = record.with_spans(self.records + self.alone);
-        if !record.codes_known() {
+    pub fn visit(&mut self, stage: Stage, record: Record, offset: u16) {
+        let (record, expected, theirs) = self.answered(stage, record, offset);
+        self.ask_ours(&record, offset, expected, theirs.as_ref());
+    }
+
+    /// The same where the record is one of a block; the others are only counted, as their number gives the spans.
+    pub fn visit_of(&mut self, block: &str, stage: Stage, record: Record, offset: u16) {
+        let own = Block { stage, operation: record.operation };
+        if own.to_string() == block {
+            self.visit(stage, record, offset);
+        } else {
             self.alone += 1;
-            self.ask_ours(&record, offset, answers::refused(15, (0, 0)), None);
+        }
+    }
+
+    /// Only what is expected: ours is not asked.
+    pub fn expect(&mut self, stage: Stage, record: Record, offset: u16) {
+        self.answered(stage, record, offset);
+    }
+
+    /// The record with its spans, what ours has to answer to it, and what 000 answers.
+    fn answered(&mut self, stage: Stage, record: Record, offset: u16) -> (Record, Answer, Option<Oracle>) {
+        let record = record.with_spans(self.records + self.alone);
+        let mut theirs = None;
+        let expected = if !record.codes_known() {
+            self.alone += 1;
+            answers::refused(15, (0, 0))
         } else if let Some(span) = record.ill_formed() {
             self.alone += 1;
-            self.ask_ours(&record, offset, answers::refused(8, span), None);
+            answers::refused(8, span)
         } else {
             self.records += 1;
-            let theirs = oracle::ask(&record, offset);
-            let expected = self.expected(&record, offset, &theirs);
-            self.ask_ours(&record, offset, expected, Some(&theirs));
+            let asked = oracle::ask(&record, offset);
+            let expected = self.expected(&record, offset, &asked);
+            theirs = Some(asked);
+            expected
+        };
+        self.digests.add(Block { stage, operation: record.operation }, &record.pack(), offset, &expected);
+        (record, expected, theirs)
+    }
+
+    pub fn digests(&self) -> &Digests {
+        &self.digests
+    }
+
+    pub fn failures(&self) -> u64 {
+        self.failures
+    }
+
+    /// Are the digests of what was expected the stored ones?
+    pub fn report_digests(&self) -> bool {
+        let differing = self.digests.differing(STORED);
+        for block in &differing {
+            println!("DIGEST: block {block} is not the one of digests.txt");
         }
+        println!("digests: {} blocks, {} differ", self.digests.blocks(), differing.len());
+        differing.is_empty()
+    }
+
+    /// The account of one block.
+    pub fn report_of(&self, block: &str) -> bool {
+        println!("differential: block {block}: {} records, {} unexplained", self.records, self.failures);
+        self.records > 0 && self.failures == 0
     }
 
     /// The oracle's answer, or what the entry that applies puts in its place.

@@ -107,7 +107,7 @@ pub fn require_value_is_signed_word(value: i32, span: Span) -> RequiredSignedWor
     }
 }
 
-// The refusals of the encoder. 000 has the first six; the last three are questions 2 and 5 where 000 panics, 1 and 8.
+// The refusals of the encoder. 000 has the first six; the last three are those of questions 2, 1 and 8, which 000 does not ask.
 // Their numbers and values are those of specs/Refusals.
 pub enum EncodeError {
     InvalidOperands(Span),
