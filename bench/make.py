@@ -8,17 +8,13 @@ which it panics; TEST carries its immediate in both operands, as the Rust takes 
 The length of each record is put together from the SDM's form: prefix, opcode, ModRM, the displacement that mode and r/m ask for, immediate. The offsets
 follow from the lengths, and near branches go to the start of a record within their reach."""
 import pathlib
-import struct
 import sys
 
 sys.path.insert(0, str(pathlib.Path(__file__).resolve().parent.parent / 'tools'))
-from operations import OPERATIONS
+from operations import (
+    BYTE, FAR, HEADER, IMM, MARK, MEM, NEAR, OPERAND, OPERATIONS, PREFIXES, RECORD, REG, SEG, SHORT, VERSION, WORD, NO_KIND as NONE, UNSPECIFIED as ANY)
 
 ORIGIN = 256
-IMM, REG, SEG, MEM = range(4)
-ANY, BYTE, WORD = range(3)
-NONE, FAR, NEAR, SHORT = range(4)
-PREFIXES = [0x26, 0x2E, 0x36, 0x3E]
 
 
 class Numbers:
@@ -244,8 +240,8 @@ def pack(place, operation, operands):
     start = 24 * place
     spans = [(start + 6, start + 12), (start + 13, start + 20)]
     both = (operands + [imm(0), imm(0)])[:2]
-    head = struct.pack('<BBII', OPERATIONS.index(operation), len(operands), start, start + 22)
-    return head + b''.join(struct.pack('<BBBBBBBiiII', *operand, *span) for operand, span in zip(both, spans))
+    head = RECORD.pack(OPERATIONS.index(operation), len(operands), start, start + 22)
+    return head + b''.join(OPERAND.pack(*operand, *span) for operand, span in zip(both, spans))
 
 
 def main():
@@ -260,7 +256,7 @@ def main():
             if operand[7] is None:
                 near = length == 3
                 operand[7] = random.one_of([start for start in starts if near or -128 <= start - (offset + length) <= 127])
-    sys.stdout.buffer.write(b'FSQ' + struct.pack('<HHH', 1, ORIGIN, len(records)))
+    sys.stdout.buffer.write(MARK + HEADER.pack(VERSION, ORIGIN, len(records)))
     for place, (operation, operands, _) in enumerate(records):
         sys.stdout.buffer.write(pack(place, operation, operands))
 

@@ -10,16 +10,13 @@ the sentence. For the lister: the bench sheet's lists, marked 01, lists that tho
 The sample is the Rust's answers as tests/differential/run writes them. Where a request of document 02 answers otherwise, the row gets the request's refusal or NASM's bytes, and
 says so: No. 1 where the Rust panics at `todo!`, for which 7 stands there; Nos. 2 and 4 where it refuses a data immediate with 5. All other rows pass through unchanged."""
 import pathlib
-import struct
 import subprocess
 import sys
 import tempfile
 
-from operations import OPERATIONS
+import operations
+from operations import BYTE, FAR, IMM, MEM, NEAR, OPERAND, OPERATIONS, REG, SEG, SHORT, WORD, NO_KIND as NONE, UNSPECIFIED as ANY
 
-IMM, REG, SEG, MEM = range(4)
-ANY, BYTE, WORD = range(3)
-NONE, FAR, NEAR, SHORT = range(4)
 # the spans differ, so that a refusal with the wrong one is seen
 INSTRUCTION, FIRST, SECOND = (1, 20), (5, 8), (10, 13)
 
@@ -53,9 +50,8 @@ AT_BX = lambda size: mem(size, 0, 7)
 def record(operation, operands, count=None):
     first = operands[0] if operands else imm(0)
     second = operands[1] if len(operands) > 1 else imm(0)
-    head = struct.pack('<BBII', OPERATIONS.index(operation), len(operands) if count is None else count, *INSTRUCTION)
-    one = lambda o, span: struct.pack('<BBBBBBBiiII', *o, *span)
-    return head + one(first, FIRST) + one(second, SECOND)
+    head = operations.RECORD.pack(OPERATIONS.index(operation), len(operands) if count is None else count, *INSTRUCTION)
+    return head + OPERAND.pack(*first, *FIRST) + OPERAND.pack(*second, *SECOND)
 
 
 # Where the rows that follow come from.
@@ -560,11 +556,12 @@ def the_sample():
     for line in sys.stdin.read().splitlines():
         packed, offset, number, *fields, written = line.split()
         packed, offset, number = bytes.fromhex(packed), int(offset, 16), int(number, 16)
-        operation = OPERATIONS[packed[0]]
-        *first, a, b = struct.unpack_from('<BBBBBBBiiII', packed, 10)
-        *second, c, d = struct.unpack_from('<BBBBBBBiiII', packed, 33)
-        spans = struct.unpack_from('<II', packed, 2), (a, b), (c, d)
-        name = words(operation, packed[1], [first, second])
+        number_of_operation, count, *span = operations.RECORD.unpack_from(packed)
+        operation = OPERATIONS[number_of_operation]
+        *first, a, b = OPERAND.unpack_from(packed, operations.FIRST)
+        *second, c, d = OPERAND.unpack_from(packed, operations.SECOND)
+        spans = tuple(span), (a, b), (c, d)
+        name = words(operation, count, [first, second])
         if number == 7 and operation not in ('INT1', 'ESC'):
             request = 1
         elif number == 5 and operation in EIGHT and WORD in (first[1], second[1]) and -128 <= second[7] < 0:

@@ -1,5 +1,6 @@
 //! The groups of document 01, in its order, and how many records of each a show has.
 
+use super::bindings::FSQ_OPERATION_AT;
 use super::records::op::*;
 use super::show::Show;
 
@@ -26,7 +27,7 @@ pub fn is_branch(operation: u8) -> bool {
 
 /// The counts as text. What stands in no group is an instruction of a single byte.
 pub fn counts(show: &Show) -> String {
-    let of = |group: &[u8]| show.records.iter().filter(|record| group.contains(&record[0])).count();
+    let of = |group: &[u8]| show.records.iter().filter(|record| group.contains(&record[FSQ_OPERATION_AT])).count();
     let mut left = show.records.len();
     let mut text = left.to_string();
     for (name, group) in GROUPS {

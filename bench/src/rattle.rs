@@ -1,37 +1,38 @@
 //! Our library behind its C functions.
 
-use super::bindings::{fsq_encode, fsq_list, fsq_load, fsq_read};
+use super::bindings::*;
 
-pub type Report = [u8; 28];
+pub type Report = [u8; FSQ_REPORT_LENGTH];
+pub type Reading = [u8; FSQ_READING_LENGTH];
 
 fn length(report: &Report) -> usize {
-    u32::from_le_bytes([report[0], report[1], report[2], report[3]]) as usize
+    u32::from_le_bytes(report[FSQ_REPORT_LENGTH_AT..][..4].try_into().unwrap()) as usize
 }
 
 /// The length of the record's bytes, which stand at the front of out; nothing where it is refused.
 #[inline]
-pub fn encode(record: &[u8; 56], offset: u16, out: &mut [u8], report: &mut Report) -> Option<usize> {
+pub fn encode(record: &[u8; FSQ_RECORD_LENGTH], offset: u16, out: &mut [u8], report: &mut Report) -> Option<usize> {
     let number = unsafe { fsq_encode(record.as_ptr(), record.len(), offset, out.as_mut_ptr(), out.len(), report.as_mut_ptr(), report.len()) };
-    (number == 0).then(|| length(report))
+    (number == FSQ_DONE).then(|| length(report))
 }
 
 /// The number of entries of 8 bytes in out.
 #[inline]
-pub fn list(record: &[u8; 56], offset: u16, out: &mut [u8], report: &mut Report) -> Option<usize> {
+pub fn list(record: &[u8; FSQ_RECORD_LENGTH], offset: u16, out: &mut [u8], report: &mut Report) -> Option<usize> {
     let number = unsafe { fsq_list(record.as_ptr(), record.len(), offset, out.as_mut_ptr(), out.len(), report.as_mut_ptr(), report.len()) };
-    (number == 0).then(|| length(report))
+    (number == FSQ_DONE).then(|| length(report))
 }
 
 /// The length of the instruction at the front of the bytes.
 #[inline]
-pub fn read(bytes: &[u8], offset: u16, out: &mut [u8; 24]) -> Option<usize> {
+pub fn read(bytes: &[u8], offset: u16, out: &mut Reading) -> Option<usize> {
     let number = unsafe { fsq_read(bytes.as_ptr(), bytes.len(), offset, out.as_mut_ptr(), out.len()) };
-    (number == 0).then(|| out[0] as usize)
+    (number == FSQ_DONE).then(|| out[FSQ_READ_LENGTH_AT] as usize)
 }
 
 /// The length of the file's image, which stands at the front of image.
 #[inline]
 pub fn load(file: &[u8], image: &mut [u8], report: &mut Report) -> Option<usize> {
     let number = unsafe { fsq_load(file.as_ptr(), file.len(), image.as_mut_ptr(), image.len(), report.as_mut_ptr(), report.len()) };
-    (number == 0).then(|| length(report))
+    (number == FSQ_DONE).then(|| length(report))
 }

@@ -1,5 +1,6 @@
 //! The Rust of docs/src on the same records: the 56 bytes read into its own data, then its `encode` into a slice.
 
+use super::bindings::*;
 use super::records::{self, Packed};
 use crate::encoder::{encode, ByteEmitter, InstructionData, JumpKind, OperandData, OperandKind, OperandSize};
 use crate::operations::Operation;
@@ -41,38 +42,43 @@ pub fn encode_record(record: &Packed, offset: u16, out: &mut [u8]) -> Option<usi
 #[inline]
 pub fn instruction(record: &Packed) -> Option<InstructionData> {
     Some(InstructionData {
-        operation: *OPERATIONS.get(record[0] as usize)?,
-        num_opers: record[1],
-        opers: [operand(record[10..33].try_into().unwrap())?, operand(record[33..56].try_into().unwrap())?],
-        opers_span: u32_at(record, 2) as usize..u32_at(record, 6) as usize,
+        operation: *OPERATIONS.get(record[FSQ_OPERATION_AT] as usize)?,
+        num_opers: record[FSQ_COUNT_AT],
+        opers: [operand(operand_bytes(record, FSQ_FIRST_AT))?, operand(operand_bytes(record, FSQ_SECOND_AT))?],
+        opers_span: u32_at(record, FSQ_SPAN_START_AT) as usize..u32_at(record, FSQ_SPAN_END_AT) as usize,
     })
 }
 
 #[inline]
-fn operand(bytes: &[u8; 23]) -> Option<OperandData> {
+fn operand_bytes(record: &Packed, at: usize) -> &[u8; FSQ_OPERAND_LENGTH] {
+    record[at..at + FSQ_OPERAND_LENGTH].try_into().unwrap()
+}
+
+#[inline]
+fn operand(bytes: &[u8; FSQ_OPERAND_LENGTH]) -> Option<OperandData> {
     Some(OperandData {
-        span: u32_at(bytes, 15) as usize..u32_at(bytes, 19) as usize,
-        size: size(bytes[1])?,
-        kind: match bytes[0] {
+        span: u32_at(bytes, FSQ_OPERAND_SPAN_START_AT) as usize..u32_at(bytes, FSQ_OPERAND_SPAN_END_AT) as usize,
+        size: size(bytes[FSQ_SIZE_AT])?,
+        kind: match bytes[FSQ_KIND_AT] {
             records::IMM => OperandKind::Imm,
             records::REG => OperandKind::Reg,
             records::SEG => OperandKind::Seg,
             records::MEM => OperandKind::Mem,
             _ => return None,
         },
-        segment_prefix: bytes[2],
-        imm: u32_at(bytes, 7) as i32,
-        displacement: u32_at(bytes, 11) as i32,
-        displacement_size: size(bytes[3])?,
-        jmp_kind: match bytes[4] {
+        segment_prefix: bytes[FSQ_PREFIX_AT],
+        imm: u32_at(bytes, FSQ_IMMEDIATE_AT) as i32,
+        displacement: u32_at(bytes, FSQ_DISPLACEMENT_AT) as i32,
+        displacement_size: size(bytes[FSQ_DISPLACEMENT_SIZE_AT])?,
+        jmp_kind: match bytes[FSQ_JUMP_AT] {
             records::NONE => None,
             records::FAR => Some(JumpKind::Far),
             records::NEAR => Some(JumpKind::Near),
             records::SHORT => Some(JumpKind::Short),
             _ => return None,
         },
-        mode: bytes[5],
-        rm: bytes[6],
+        mode: bytes[FSQ_MODE_AT],
+        rm: bytes[FSQ_RM_AT],
     })
 }
 

@@ -1,6 +1,7 @@
 //! The show that is measured: its file, its records and their offsets.
 
 use super::answers::{self, Run};
+use super::bindings::*;
 use super::groups;
 use super::records::{self, Packed, FAR, IMM};
 use super::rust;
@@ -19,12 +20,17 @@ pub struct Show {
 impl Show {
     pub fn read(path: &str) -> Result<Show, String> {
         let file = std::fs::read(path).map_err(|e| format!("{path}: {e}"))?;
-        if file.len() < 9 || file[..5] != *b"FSQ\x01\x00" || file.len() != 9 + 56 * u16::from_le_bytes([file[7], file[8]]) as usize {
+        let head = |at: usize| u16::from_le_bytes([file[at], file[at + 1]]);
+        if file.len() < FSQ_HEADER_LENGTH
+            || !file.starts_with(b"FSQ")
+            || head(FSQ_HEADER_VERSION_AT) != FSQ_FILE_VERSION
+            || file.len() != FSQ_HEADER_LENGTH + FSQ_RECORD_LENGTH * head(FSQ_HEADER_COUNT_AT) as usize
+        {
             return Err(format!("{path} is no show file"));
         }
-        let mut offset = u16::from_le_bytes([file[5], file[6]]);
+        let mut offset = head(FSQ_HEADER_ORIGIN_AT);
         let mut show = Show { records: Vec::new(), offsets: Vec::new(), instructions: Vec::new(), strings: Vec::new(), file };
-        for (n, record) in show.file[9..].chunks(56).enumerate() {
+        for (n, record) in show.file[FSQ_HEADER_LENGTH..].chunks(FSQ_RECORD_LENGTH).enumerate() {
             let record: Packed = record.try_into().unwrap();
             let mut out = [0; 8];
             let length = rust::encode_record(&record, offset, &mut out).ok_or(format!("record {n}: the Rust refuses it"))?;
@@ -38,11 +44,16 @@ impl Show {
         Ok(show)
     }
 
+    pub fn origin(&self) -> u16 {
+        u16::from_le_bytes([self.file[FSQ_HEADER_ORIGIN_AT], self.file[FSQ_HEADER_ORIGIN_AT + 1]])
+    }
+
     /// Every near branch goes to the start of a record: the lengths that make.py counts with are the right ones.
     fn branches_land(&self) -> Result<(), String> {
         for (n, record) in self.records.iter().enumerate() {
-            let (branch, kind, jump) = (groups::is_branch(record[0]), record[10], record[14]);
-            let target = i32::from_le_bytes(record[17..21].try_into().unwrap());
+            let first = &record[FSQ_FIRST_AT..];
+            let (branch, kind, jump) = (groups::is_branch(record[FSQ_OPERATION_AT]), first[FSQ_KIND_AT], first[FSQ_JUMP_AT]);
+            let target = i32::from_le_bytes(first[FSQ_IMMEDIATE_AT..][..4].try_into().unwrap());
             if branch && kind == IMM && jump != FAR && !self.offsets.iter().any(|start| *start as i32 == target) {
                 return Err(format!("record {n}: its target {target} is not the start of a record"));
             }
@@ -52,7 +63,7 @@ impl Show {
 
     /// The Rust's bytes as fsqlist prints them: what a machine without the Rust compares with (records.txt).
     pub fn print_listing(&self) {
-        println!("FSQ 1 {:02X}{:02X} {}", self.file[6], self.file[5], self.records.len());
+        println!("FSQ {FSQ_FILE_VERSION} {:04X} {}", self.origin(), self.records.len());
         for (offset, string) in self.offsets.iter().zip(&self.strings) {
             println!("{offset:04X} {} {}", string.len, records::hex(&string.bytes[..string.len]));
         }

@@ -1,6 +1,7 @@
 //! The sides that are timed. Each does a round: all records of the show once, into slots that stand ready.
 
 use super::answers::Run;
+use super::bindings::*;
 use super::rattle::{self, Report};
 use super::rust;
 use super::show::Show;
@@ -20,7 +21,7 @@ pub enum Writes {
 pub struct Slots {
     bytes: Vec<[u8; 8]>,
     lengths: Vec<usize>,
-    lists: Vec<[u8; 96]>,
+    lists: Vec<[u8; FSQ_LIST_LENGTH]>,
     image: Vec<u8>,
 }
 
@@ -30,8 +31,8 @@ impl Slots {
         Slots {
             bytes: vec![[0; 8]; of(Writes::Bytes)],
             lengths: vec![0; records],
-            lists: vec![[0; 96]; of(Writes::Lists)],
-            image: vec![0; 7 * of(Writes::Image)],
+            lists: vec![[0; FSQ_LIST_LENGTH]; of(Writes::Lists)],
+            image: vec![0; FSQ_STRING_LENGTH * of(Writes::Image)],
         }
     }
 
@@ -39,7 +40,7 @@ impl Slots {
     pub fn clear(&mut self) {
         self.bytes.fill([0; 8]);
         self.lengths.fill(0);
-        self.lists.fill([0; 96]);
+        self.lists.fill([0; FSQ_LIST_LENGTH]);
         self.image.fill(0);
     }
 }
@@ -82,7 +83,7 @@ pub fn agree(show: &Show) -> Result<String, String> {
 
 #[inline(never)]
 fn encode_rattle(show: &Show, slots: &mut Slots) {
-    let mut report: Report = [0; 28];
+    let mut report: Report = [0; FSQ_REPORT_LENGTH];
     for (n, record) in show.records.iter().enumerate() {
         slots.lengths[n] = rattle::encode(record, show.offsets[n], &mut slots.bytes[n], &mut report).unwrap_or(0);
     }
@@ -104,7 +105,7 @@ fn encode_rust_alone(show: &Show, slots: &mut Slots) {
 
 #[inline(never)]
 fn read_rattle(show: &Show, slots: &mut Slots) {
-    let mut out = [0; 24];
+    let mut out = [0; FSQ_READING_LENGTH];
     for (n, string) in show.strings.iter().enumerate() {
         slots.lengths[n] = rattle::read(&string.bytes[..string.len], show.offsets[n], &mut out).unwrap_or(0);
     }
@@ -120,7 +121,7 @@ fn read_zydis(show: &Show, slots: &mut Slots) {
 
 #[inline(never)]
 fn list_rattle(show: &Show, slots: &mut Slots) {
-    let mut report: Report = [0; 28];
+    let mut report: Report = [0; FSQ_REPORT_LENGTH];
     for (n, record) in show.records.iter().enumerate() {
         slots.lengths[n] = rattle::list(record, show.offsets[n], &mut slots.lists[n], &mut report).unwrap_or(0);
     }
@@ -128,16 +129,16 @@ fn list_rattle(show: &Show, slots: &mut Slots) {
 
 #[inline(never)]
 fn load_rattle(show: &Show, slots: &mut Slots) {
-    let mut report: Report = [0; 28];
+    let mut report: Report = [0; FSQ_REPORT_LENGTH];
     slots.lengths[0] = rattle::load(&show.file, &mut slots.image, &mut report).unwrap_or(0);
 }
 
 /// The Rust has no loader: each record of the file read and encoded, behind the one before it.
 #[inline(never)]
 fn load_rust(show: &Show, slots: &mut Slots) {
-    let mut offset = u16::from_le_bytes([show.file[5], show.file[6]]);
+    let mut offset = show.origin();
     let mut at = 0;
-    for record in show.file[9..].chunks_exact(56) {
+    for record in show.file[FSQ_HEADER_LENGTH..].chunks_exact(FSQ_RECORD_LENGTH) {
         let length = rust::encode_record(record.try_into().unwrap(), offset, &mut slots.image[at..]).unwrap_or(0);
         offset = offset.wrapping_add(length as u16);
         at += length;
@@ -168,7 +169,7 @@ fn lengths_but_for_prefixes(show: &Show, slots: &Slots) -> Result<(), String> {
 
 /// The record's own string is among the entries.
 fn lists(show: &Show, slots: &Slots) -> Result<(), String> {
-    each(show, |n, string| slots.lists[n].chunks(8).take(slots.lengths[n]).any(|entry| entry[0] as usize == string.len && entry[1..] == string.bytes))
+    each(show, |n, string| slots.lists[n].chunks(FSQ_ENTRY_LENGTH).take(slots.lengths[n]).any(|entry| entry[0] as usize == string.len && entry[1..] == string.bytes))
 }
 
 fn image(show: &Show, slots: &Slots) -> Result<(), String> {

@@ -1,6 +1,12 @@
-/* The 8086 encoder for show files, as C and C++ call it: libforeign.a, built by `rt staticlib foreign`, x86-64.
+/* The 8086 encoder for show files, as C (from C99) and C++ (from C++11) call it: libfsq.a, for x86-64 Linux. tools/staticlib writes it to
+ * target/staticlib, where libforeign.a is the same archive under the name that `rt staticlib foreign` gives it. `make -C library install` and
+ * library/CMakeLists.txt install header, library and fsq.pc, its pkg-config file.
  *
- * Four functions over slices that the caller lends: an address and a length. For all of them:
+ * This header has, in this order: the numbers and offsets; the four functions of the library; and over them inline functions, which a program
+ * needs no offsets for: operands (fsq_reg, fsq_mem, ..), records (fsq_none, fsq_one, fsq_two), calls whose answer is the length (fsq_encode_at,
+ * fsq_list_at, fsq_read_at, fsq_load_show), fields, names, and the writing of a show file. library/examples/one.c and show.c use them.
+ *
+ * The four functions work on slices that the caller lends: an address and a length. For all of them:
  * - A slice of any length is safe. One of length 0 may have any address that is not null.
  * - No two slices of one call may overlap.
  * - Nothing is written behind what is said here, and on a refusal nothing but the report.
@@ -12,6 +18,10 @@
 
 #include <stddef.h>
 #include <stdint.h>
+
+/* The version of this header. Another major one may take a name away, another minor one adds some. */
+#define FSQ_VERSION_MAJOR 2
+#define FSQ_VERSION_MINOR 0
 
 #ifdef __cplusplus
 extern "C" {
@@ -45,7 +55,17 @@ enum fsq_length {
     FSQ_READING_LENGTH = 24,  /* a read instruction */
     FSQ_ENTRY_LENGTH = 8,     /* an entry of a list */
     FSQ_LIST_LENGTH = 96,     /* the longest list: twelve entries */
-    FSQ_HEADER_LENGTH = 9     /* what stands before the records of a show file */
+    FSQ_HEADER_LENGTH = 9,    /* what stands before the records of a show file */
+    FSQ_OPERAND_LENGTH = 23,  /* an operand of a record */
+    FSQ_IMAGE_LENGTH = 7000,  /* the longest image: a slice of so many bytes takes every one */
+    FSQ_FILE_LENGTH = 56009   /* the longest show file */
+};
+
+/* Limits, and the version of a show file. */
+enum fsq_limit {
+    FSQ_MOST_RECORDS = 1000,  /* of a show file */
+    FSQ_MOST_ENTRIES = 12,    /* of a list */
+    FSQ_FILE_VERSION = 1      /* the one that is loaded and written */
 };
 
 /* The record in a report that names none. */
@@ -53,13 +73,25 @@ enum fsq_length {
 
 /* Where the fields of a report stand. A field that the answer does not give is 0. */
 enum fsq_report {
-    FSQ_TOLD_LENGTH_AT = 0,         /* u32: the length or count that the function answers */
-    FSQ_TOLD_SPAN_START_AT = 4,     /* u32: the span of a refusal from 1 to 9 */
-    FSQ_TOLD_SPAN_END_AT = 8,       /* u32 */
-    FSQ_TOLD_VALUE_AT = 12,         /* i32: the value of a refusal 5, the distance of a refusal 6 */
-    FSQ_TOLD_LOW_AT = 16,           /* i32: the limits of a refusal 5 */
-    FSQ_TOLD_HIGH_AT = 20,          /* i32 */
-    FSQ_TOLD_RECORD_AT = 24         /* u32: the record, from 0, that fsq_load refuses, else FSQ_NO_RECORD */
+    FSQ_REPORT_LENGTH_AT = 0,       /* u32: the length or count that the function answers */
+    FSQ_REPORT_SPAN_START_AT = 4,   /* u32: the span of a refusal from 1 to 9 */
+    FSQ_REPORT_SPAN_END_AT = 8,     /* u32 */
+    FSQ_REPORT_VALUE_AT = 12,       /* i32: the value of a refusal 5, the distance of a refusal 6 */
+    FSQ_REPORT_LOW_AT = 16,         /* i32: the limits of a refusal 5 */
+    FSQ_REPORT_HIGH_AT = 20,        /* i32 */
+    FSQ_REPORT_RECORD_AT = 24,      /* u32: the record, from 0, that fsq_load refuses, else FSQ_NO_RECORD */
+    /* The same, as version 1 named them. */
+    FSQ_TOLD_LENGTH_AT = FSQ_REPORT_LENGTH_AT, FSQ_TOLD_SPAN_START_AT = FSQ_REPORT_SPAN_START_AT, FSQ_TOLD_SPAN_END_AT = FSQ_REPORT_SPAN_END_AT,
+    FSQ_TOLD_VALUE_AT = FSQ_REPORT_VALUE_AT, FSQ_TOLD_LOW_AT = FSQ_REPORT_LOW_AT, FSQ_TOLD_HIGH_AT = FSQ_REPORT_HIGH_AT,
+    FSQ_TOLD_RECORD_AT = FSQ_REPORT_RECORD_AT
+};
+
+/* Where the fields of a show file's header stand. Record k, from 0, stands at 9 + 56 * k. */
+enum fsq_header {
+    FSQ_HEADER_MARK_AT = 0,      /* 3 bytes: 46 53 51 (hexadecimal), "FSQ" */
+    FSQ_HEADER_VERSION_AT = 3,   /* u16: FSQ_FILE_VERSION */
+    FSQ_HEADER_ORIGIN_AT = 5,    /* u16: the offset of the first record */
+    FSQ_HEADER_COUNT_AT = 7      /* u16: records, 0 to 1,000 */
 };
 
 /* Where the fields of a record stand. Its two operands stand at 10 and 33; an operand that the instruction does not have is all zeros. */
@@ -72,7 +104,18 @@ enum fsq_record {
     FSQ_SECOND_AT = 33         /* the second */
 };
 
-/* Where the fields of an operand stand, from its first byte. */
+/* Where the fields of an operand stand, from its first byte.
+ *
+ * An operand is well formed, and not refused with FSQ_NOT_WELL_FORMED, where its fields are these; what is not named here is free:
+ *                       FSQ_IMM       FSQ_REG       FSQ_SEG       FSQ_MEM
+ *   prefix              0             0             0             0, 26, 2E, 36 or 3E (hexadecimal)
+ *   mode                0             3             3             0, 1 or 2
+ *   r/m                 0             0 to 7        0 to 3        0 to 7
+ *   displacement size   unspecified   unspecified   unspecified   mode 0 unspecified, but word with r/m 6; mode 1 byte; mode 2 word
+ *   displacement        free          0             0             unspecified 0, byte -128 to 127, word -32,768 to 65,535
+ *   size                free          free          word          free
+ * Both operands of a record are asked, also one that the operation does not use. The inline functions below make no other operands.
+ */
 enum fsq_operand {
     FSQ_KIND_AT = 0,                 /* u8: enum fsq_kind */
     FSQ_SIZE_AT = 1,                 /* u8: enum fsq_size, the size of the value */
@@ -119,7 +162,21 @@ enum fsq_read_kind {
 
 enum fsq_extension {
     FSQ_EXTENSION_NONE = 0, FSQ_EXTENSION_PLUS_REGISTER = 1, FSQ_EXTENSION_PLUS_SEGMENT = 2, FSQ_EXTENSION_MODRM = 3,
-    FSQ_EXTENSION_0A = 4 /* AAM and AAD: a second byte 0A */
+    FSQ_EXTENSION_0A = 4, /* AAM and AAD: a second byte 0A */
+    FSQ_EXTENSION_DIGIT = 8 /* /0; /n is 8 + n, to 15 */
+};
+
+/* The registers. Those of a byte are 0 to 7 and those of a word 8 to 15; the number in a record or a reading is the value modulo 8. */
+enum fsq_register {
+    FSQ_AL = 0, FSQ_CL, FSQ_DL, FSQ_BL, FSQ_AH, FSQ_CH, FSQ_DH, FSQ_BH, FSQ_AX, FSQ_CX, FSQ_DX, FSQ_BX, FSQ_SP, FSQ_BP, FSQ_SI, FSQ_DI
+};
+
+/* The segment registers, by their numbers. */
+enum fsq_segment { FSQ_ES = 0, FSQ_CS, FSQ_SS, FSQ_DS };
+
+/* What memory is addressed by: r/m, or for an address alone FSQ_BASE_NONE, as in a read operand's number. */
+enum fsq_base {
+    FSQ_BASE_BX_SI = 0, FSQ_BASE_BX_DI, FSQ_BASE_BP_SI, FSQ_BASE_BP_DI, FSQ_BASE_SI, FSQ_BASE_DI, FSQ_BASE_BP, FSQ_BASE_BX, FSQ_BASE_NONE
 };
 
 /* The operations, numbered from 0. */
@@ -174,6 +231,532 @@ uint8_t fsq_read(const uint8_t *bytes, size_t bytes_len, uint16_t offset, uint8_
  *                        one; 1 to 8 of the first record that is refused; FSQ_SLICE_TOO_SHORT of the first record that the image does not hold
  */
 uint8_t fsq_load(const uint8_t *file, size_t file_len, uint8_t *image, size_t image_len, uint8_t *report, size_t report_len);
+
+/* The inline functions.
+ *
+ * They stand over the four functions and are compiled with the program that includes this header. They allocate nothing and keep nothing.
+ * Where one answers an int, it is a length or a count, 0 or more, or a refusal's number made negative, -1 to -15:
+ *
+ *     int length = fsq_encode_at(&record, offset, out, sizeof out, &report);
+ *     if (length < 0)
+ *         puts(fsq_refusal_sentence(length));
+ *
+ * - A pointer that is null is an empty slice, whatever length comes with it, and a slice of length 0 may have any address.
+ * - No two of the slices, records, lists, readings and reports of one call may overlap.
+ * - A report may be null where it is not wanted.
+ */
+
+/* An operand, a record, a report, a read instruction and a list: their bytes, as the offsets above name them. A report cannot be too short, and a
+ * list has the number of its entries beside them. */
+typedef struct fsq_operand_t { uint8_t bytes[FSQ_OPERAND_LENGTH]; } fsq_operand_t;
+typedef struct fsq_record_t { uint8_t bytes[FSQ_RECORD_LENGTH]; } fsq_record_t;
+typedef struct fsq_report_t { uint8_t bytes[FSQ_REPORT_LENGTH]; } fsq_report_t;
+typedef struct fsq_reading_t { uint8_t bytes[FSQ_READING_LENGTH]; } fsq_reading_t;
+typedef struct fsq_list_t { uint8_t bytes[FSQ_LIST_LENGTH], count; } fsq_list_t;
+
+/* The little-endian number at an address, of two bytes, of four, and of four with a sign. */
+static inline uint16_t fsq_get_u16(const uint8_t *at) {
+    return (uint16_t) (at[0] | at[1] << 8);
+}
+
+static inline uint32_t fsq_get_u32(const uint8_t *at) {
+    return (uint32_t) at[0] | (uint32_t) at[1] << 8 | (uint32_t) at[2] << 16 | (uint32_t) at[3] << 24;
+}
+
+static inline int32_t fsq_get_i32(const uint8_t *at) {
+    uint32_t n = fsq_get_u32(at);
+    return n < 2147483648u ? (int32_t) n : (int32_t) (n - 2147483648u) - 2147483647 - 1;
+}
+
+/* Writes a little-endian number at an address, of two bytes and of four; one with a sign is cast to uint32_t. */
+static inline void fsq_put_u16(uint8_t *at, uint16_t n) {
+    at[0] = (uint8_t) (n & 255u);
+    at[1] = (uint8_t) (n >> 8);
+}
+
+static inline void fsq_put_u32(uint8_t *at, uint32_t n) {
+    fsq_put_u16(at, (uint16_t) (n & 65535u));
+    fsq_put_u16(at + 2, (uint16_t) (n >> 16));
+}
+
+/* Operands. Every one that these functions make is well formed: an argument that is outside what its type names is reduced as is said. */
+
+/* A register, with its size.
+ *   name      the register; modulo 16
+ *   answers   the operand
+ */
+static inline fsq_operand_t fsq_reg(enum fsq_register name) {
+    fsq_operand_t operand = {{0}};
+    operand.bytes[FSQ_KIND_AT] = FSQ_REG;
+    operand.bytes[FSQ_SIZE_AT] = ((unsigned) name & 8u) != 0 ? FSQ_WORD : FSQ_BYTE;
+    operand.bytes[FSQ_MODE_AT] = 3;
+    operand.bytes[FSQ_RM_AT] = (uint8_t) ((unsigned) name & 7u);
+    return operand;
+}
+
+/* A segment register.
+ *   name      the segment register; modulo 4
+ *   answers   the operand
+ */
+static inline fsq_operand_t fsq_seg(enum fsq_segment name) {
+    fsq_operand_t operand = {{0}};
+    operand.bytes[FSQ_KIND_AT] = FSQ_SEG;
+    operand.bytes[FSQ_SIZE_AT] = FSQ_WORD;
+    operand.bytes[FSQ_MODE_AT] = 3;
+    operand.bytes[FSQ_RM_AT] = (uint8_t) ((unsigned) name & 3u);
+    return operand;
+}
+
+/* An immediate, or the target of a branch that says no kind.
+ *   value     the value, or the target; no size is stated
+ *   answers   the operand
+ */
+static inline fsq_operand_t fsq_imm(int32_t value) {
+    fsq_operand_t operand = {{0}};
+    operand.bytes[FSQ_KIND_AT] = FSQ_IMM;
+    fsq_put_u32(operand.bytes + FSQ_IMMEDIATE_AT, (uint32_t) value);
+    return operand;
+}
+
+/* A far target, as JMP takes it.
+ *   segment, offset   the target, in the order in which it is written
+ *   answers           the operand
+ */
+static inline fsq_operand_t fsq_far(uint16_t segment, uint16_t offset) {
+    fsq_operand_t operand = fsq_imm(offset);
+    operand.bytes[FSQ_JUMP_AT] = FSQ_FAR;
+    fsq_put_u32(operand.bytes + FSQ_DISPLACEMENT_AT, segment);
+    return operand;
+}
+
+/* The same operand with a stated size.
+ *   operand   the operand; a segment register stays as it is
+ *   size      the size; any other number is FSQ_UNSPECIFIED
+ *   answers   the operand
+ */
+static inline fsq_operand_t fsq_with_size(fsq_operand_t operand, enum fsq_size size) {
+    if (operand.bytes[FSQ_KIND_AT] != FSQ_SEG)
+        operand.bytes[FSQ_SIZE_AT] = (uint8_t) ((unsigned) size <= (unsigned) FSQ_WORD ? (unsigned) size : (unsigned) FSQ_UNSPECIFIED);
+    return operand;
+}
+
+/* Memory at a base and a displacement, in the shortest mode: 0 for displacement 0, 1 for -128 to 127, 2 for the others; [BP] is mode 1 with 0.
+ *   size           the size of the value; FSQ_UNSPECIFIED where the other operand states it; any other number is FSQ_UNSPECIFIED
+ *   base           the base; any other number is FSQ_BASE_NONE, an address alone
+ *   displacement   the displacement; outside -32,768 to 65,535, and of FSQ_BASE_NONE, modulo 65,536
+ *   answers        the operand, without a segment prefix
+ */
+static inline fsq_operand_t fsq_mem(enum fsq_size size, enum fsq_base base, int32_t displacement) {
+    fsq_operand_t operand = {{0}};
+    unsigned rm = (unsigned) base;
+    int direct = rm > 7u;
+    uint8_t mode;
+    if (direct || displacement < -32768 || displacement > 65535)
+        displacement = (int32_t) ((uint32_t) displacement & 65535u);
+    mode = direct || (displacement == 0 && rm != 6u) ? 0 : displacement >= -128 && displacement <= 127 ? 1 : 2;
+    operand.bytes[FSQ_KIND_AT] = FSQ_MEM;
+    operand.bytes[FSQ_DISPLACEMENT_SIZE_AT] = direct ? (uint8_t) FSQ_WORD : mode;
+    operand.bytes[FSQ_MODE_AT] = mode;
+    operand.bytes[FSQ_RM_AT] = (uint8_t) (direct ? 6u : rm);
+    fsq_put_u32(operand.bytes + FSQ_DISPLACEMENT_AT, (uint32_t) displacement);
+    return fsq_with_size(operand, size);
+}
+
+/* Memory at an address.
+ *   size      as of fsq_mem
+ *   address   the address
+ *   answers   the operand, without a segment prefix
+ */
+static inline fsq_operand_t fsq_address(enum fsq_size size, uint16_t address) {
+    return fsq_mem(size, FSQ_BASE_NONE, address);
+}
+
+/* The same memory with a segment prefix, which is written even where it names the default segment.
+ *   operand   the operand; one that is not memory stays as it is
+ *   segment   the segment register; modulo 4
+ *   answers   the operand
+ */
+static inline fsq_operand_t fsq_with_segment(fsq_operand_t operand, enum fsq_segment segment) {
+    if (operand.bytes[FSQ_KIND_AT] == FSQ_MEM)
+        operand.bytes[FSQ_PREFIX_AT] = (uint8_t) (0x26u + 8u * ((unsigned) segment & 3u));
+    return operand;
+}
+
+/* The same target, or memory that holds one, with its jump kind.
+ *   operand   the operand
+ *   kind      the kind; any other number is FSQ_NO_KIND
+ *   answers   the operand
+ */
+static inline fsq_operand_t fsq_with_jump(fsq_operand_t operand, enum fsq_jump kind) {
+    operand.bytes[FSQ_JUMP_AT] = (uint8_t) ((unsigned) kind <= (unsigned) FSQ_SHORT ? (unsigned) kind : (unsigned) FSQ_NO_KIND);
+    return operand;
+}
+
+/* The same operand with its place in the source.
+ *   operand      the operand
+ *   start, end   its first position and the one behind its last; a refusal gives them back
+ *   answers      the operand
+ */
+static inline fsq_operand_t fsq_with_span(fsq_operand_t operand, uint32_t start, uint32_t end) {
+    fsq_put_u32(operand.bytes + FSQ_OPERAND_SPAN_START_AT, start);
+    fsq_put_u32(operand.bytes + FSQ_OPERAND_SPAN_END_AT, end);
+    return operand;
+}
+
+/* Records. */
+
+/* A record of two operands.
+ *   operation       the operation; any other number is written as 255, and the record is refused with FSQ_UNKNOWN_CODE
+ *   first, second   the operands, copied
+ *   answers         the record, its span 0 to 0
+ */
+static inline fsq_record_t fsq_two(enum fsq_operation operation, fsq_operand_t first, fsq_operand_t second) {
+    fsq_record_t record = {{0}};
+    size_t i;
+    record.bytes[FSQ_OPERATION_AT] = (uint8_t) ((unsigned) operation <= (unsigned) FSQ_SALC ? (unsigned) operation : 255u);
+    record.bytes[FSQ_COUNT_AT] = 2;
+    for (i = 0; i < FSQ_OPERAND_LENGTH; i++) {
+        record.bytes[FSQ_FIRST_AT + i] = first.bytes[i];
+        record.bytes[FSQ_SECOND_AT + i] = second.bytes[i];
+    }
+    return record;
+}
+
+/* A record of one operand.
+ *   operation   as of fsq_two
+ *   first       the operand, copied
+ *   answers     the record; its second operand is zeros
+ */
+static inline fsq_record_t fsq_one(enum fsq_operation operation, fsq_operand_t first) {
+    fsq_record_t record = fsq_two(operation, first, fsq_imm(0));
+    record.bytes[FSQ_COUNT_AT] = 1;
+    return record;
+}
+
+/* A record without operands.
+ *   operation   as of fsq_two
+ *   answers     the record; its operands are zeros
+ */
+static inline fsq_record_t fsq_none(enum fsq_operation operation) {
+    fsq_record_t record = fsq_two(operation, fsq_imm(0), fsq_imm(0));
+    record.bytes[FSQ_COUNT_AT] = 0;
+    return record;
+}
+
+/* The same record with the instruction's place in the source, which also the operands get that it does not have.
+ *   record       the record
+ *   start, end   its first position and the one behind its last; a refusal gives them back
+ *   answers      the record
+ */
+static inline fsq_record_t fsq_record_with_span(fsq_record_t record, uint32_t start, uint32_t end) {
+    fsq_put_u32(record.bytes + FSQ_SPAN_START_AT, start);
+    fsq_put_u32(record.bytes + FSQ_SPAN_END_AT, end);
+    if (record.bytes[FSQ_COUNT_AT] < 1) {
+        fsq_put_u32(record.bytes + FSQ_FIRST_AT + FSQ_OPERAND_SPAN_START_AT, start);
+        fsq_put_u32(record.bytes + FSQ_FIRST_AT + FSQ_OPERAND_SPAN_END_AT, end);
+    }
+    if (record.bytes[FSQ_COUNT_AT] < 2) {
+        fsq_put_u32(record.bytes + FSQ_SECOND_AT + FSQ_OPERAND_SPAN_START_AT, start);
+        fsq_put_u32(record.bytes + FSQ_SECOND_AT + FSQ_OPERAND_SPAN_END_AT, end);
+    }
+    return record;
+}
+
+/* Calls. For a null slice the library gets another address, with the length 0. Of a length that is below 256 the lowest byte is read. */
+
+/* Encodes a record at an offset: fsq_encode.
+ *   record         the record; null is refused with FSQ_WRONG_LENGTH
+ *   offset         where its bytes are to stand in the segment
+ *   out, out_len   gets the bytes at its front; its later bytes stay
+ *   report         gets the report, or is null
+ *   answers        the number of bytes, 1 to 7, or a refusal's number made negative
+ */
+static inline int fsq_encode_at(const fsq_record_t *record, uint16_t offset, uint8_t *out, size_t out_len, fsq_report_t *report) {
+    fsq_report_t own;
+    uint8_t answer;
+    if (report == NULL)
+        report = &own;
+    if (out == NULL) {
+        out = report->bytes;
+        out_len = 0;
+    }
+    answer = fsq_encode(record != NULL ? record->bytes : report->bytes, record != NULL ? (size_t) FSQ_RECORD_LENGTH : 0, offset, out, out_len,
+                        report->bytes, FSQ_REPORT_LENGTH);
+    return answer == FSQ_DONE ? report->bytes[FSQ_REPORT_LENGTH_AT] : -(int) answer;
+}
+
+/* Lists all strings of bytes that are, at an offset, the same instruction as a record's: fsq_list.
+ *   record    the record; null is refused with FSQ_WRONG_LENGTH
+ *   offset    where the strings are to stand in the segment
+ *   list      gets the entries and their number; on a refusal its bytes stay and the number is 0; null is refused with FSQ_SLICE_TOO_SHORT
+ *   report    gets the report, or is null
+ *   answers   the number of entries, 1 to 12, or a refusal's number made negative
+ */
+static inline int fsq_list_at(const fsq_record_t *record, uint16_t offset, fsq_list_t *list, fsq_report_t *report) {
+    fsq_report_t own;
+    uint8_t answer;
+    if (report == NULL)
+        report = &own;
+    answer = fsq_list(record != NULL ? record->bytes : report->bytes, record != NULL ? (size_t) FSQ_RECORD_LENGTH : 0, offset,
+                      list != NULL ? list->bytes : report->bytes, list != NULL ? (size_t) FSQ_LIST_LENGTH : 0, report->bytes, FSQ_REPORT_LENGTH);
+    /* 0 where it is refused. */
+    if (list != NULL)
+        list->count = report->bytes[FSQ_REPORT_LENGTH_AT];
+    return answer == FSQ_DONE ? report->bytes[FSQ_REPORT_LENGTH_AT] : -(int) answer;
+}
+
+/* Reads one instruction at the front of some bytes: fsq_read. What follows it is not looked at.
+ *   bytes, bytes_len   the bytes
+ *   offset             where they stand in the segment: near targets are answered for it
+ *   reading            gets the read instruction, or is null; stays on a refusal
+ *   answers            the instruction's length, 1 to 7, or -10 or -11
+ */
+static inline int fsq_read_at(const uint8_t *bytes, size_t bytes_len, uint16_t offset, fsq_reading_t *reading) {
+    fsq_reading_t own;
+    uint8_t answer;
+    if (reading == NULL)
+        reading = &own;
+    if (bytes == NULL) {
+        bytes = reading->bytes;
+        bytes_len = 0;
+    }
+    answer = fsq_read(bytes, bytes_len, offset, reading->bytes, FSQ_READING_LENGTH);
+    return answer == FSQ_DONE ? reading->bytes[FSQ_READ_LENGTH_AT] : -(int) answer;
+}
+
+/* Loads a show file: fsq_load.
+ *   file, file_len     the whole file
+ *   image, image_len   gets the records' bytes at its front; its later bytes stay. FSQ_IMAGE_LENGTH bytes are enough for every file
+ *   report             gets the report, or is null
+ *   answers            the length of the image, 0 to 7,000, or a refusal's number made negative
+ */
+static inline int fsq_load_show(const uint8_t *file, size_t file_len, uint8_t *image, size_t image_len, fsq_report_t *report) {
+    fsq_report_t own;
+    uint8_t answer;
+    if (report == NULL)
+        report = &own;
+    if (file == NULL) {
+        file = report->bytes;
+        file_len = 0;
+    }
+    if (image == NULL) {
+        image = report->bytes;
+        image_len = 0;
+    }
+    answer = fsq_load(file, file_len, image, image_len, report->bytes, FSQ_REPORT_LENGTH);
+    return answer == FSQ_DONE ? (int) fsq_get_u32(report->bytes + FSQ_REPORT_LENGTH_AT) : -(int) answer;
+}
+
+/* The fields of a report. One that the answer does not give is 0, and the record FSQ_NO_RECORD. */
+
+/* The length or count that the function answers. */
+static inline uint32_t fsq_report_length(const fsq_report_t *report) {
+    return fsq_get_u32(report->bytes + FSQ_REPORT_LENGTH_AT);
+}
+
+/* The first position in the source of what a refusal from 1 to 9 is about. */
+static inline uint32_t fsq_report_span_start(const fsq_report_t *report) {
+    return fsq_get_u32(report->bytes + FSQ_REPORT_SPAN_START_AT);
+}
+
+/* The position behind its last. */
+static inline uint32_t fsq_report_span_end(const fsq_report_t *report) {
+    return fsq_get_u32(report->bytes + FSQ_REPORT_SPAN_END_AT);
+}
+
+/* The value that a refusal 5 is about, or the distance of a refusal 6. */
+static inline int32_t fsq_report_value(const fsq_report_t *report) {
+    return fsq_get_i32(report->bytes + FSQ_REPORT_VALUE_AT);
+}
+
+/* The lowest value that a refusal 5 would have let pass. */
+static inline int32_t fsq_report_low(const fsq_report_t *report) {
+    return fsq_get_i32(report->bytes + FSQ_REPORT_LOW_AT);
+}
+
+/* The highest. */
+static inline int32_t fsq_report_high(const fsq_report_t *report) {
+    return fsq_get_i32(report->bytes + FSQ_REPORT_HIGH_AT);
+}
+
+/* The record, from 0, that fsq_load_show refuses, or FSQ_NO_RECORD. */
+static inline uint32_t fsq_report_record(const fsq_report_t *report) {
+    return fsq_get_u32(report->bytes + FSQ_REPORT_RECORD_AT);
+}
+
+/* The strings of a list. */
+
+/* The length of a string of a list.
+ *   list      a list that fsq_list_at wrote
+ *   entry     the entry, from 0
+ *   answers   the length, 1 to 7, or 0 where the list has fewer entries
+ */
+static inline size_t fsq_entry_length(const fsq_list_t *list, size_t entry) {
+    return entry < list->count ? list->bytes[entry * FSQ_ENTRY_LENGTH] : 0;
+}
+
+/* The bytes of a string of a list.
+ *   list, entry   as of fsq_entry_length
+ *   answers       the address in the list of its 7 bytes, of which fsq_entry_length are the string's and the others zeros
+ */
+static inline const uint8_t *fsq_entry_bytes(const fsq_list_t *list, size_t entry) {
+    return list->bytes + (entry < list->count ? entry : 0) * FSQ_ENTRY_LENGTH + 1;
+}
+
+/* The fields of a read instruction. Of its operands 0 is the first, and every other number the second. */
+
+/* The number of its bytes, 1 to 7. */
+static inline size_t fsq_reading_length(const fsq_reading_t *reading) {
+    return reading->bytes[FSQ_READ_LENGTH_AT];
+}
+
+/* Its operation. */
+static inline enum fsq_operation fsq_reading_operation(const fsq_reading_t *reading) {
+    return (enum fsq_operation) reading->bytes[FSQ_READ_OPERATION_AT];
+}
+
+/* Its width, or FSQ_UNSPECIFIED where the form has none. */
+static inline enum fsq_size fsq_reading_width(const fsq_reading_t *reading) {
+    return (enum fsq_size) reading->bytes[FSQ_READ_WIDTH_AT];
+}
+
+/* The form's opcode, without the register of a +r or +s. */
+static inline uint8_t fsq_reading_opcode(const fsq_reading_t *reading) {
+    return reading->bytes[FSQ_READ_OPCODE_AT];
+}
+
+/* The form's extension: a number of enum fsq_extension, FSQ_EXTENSION_DIGIT + n for /n. */
+static inline uint8_t fsq_reading_extension(const fsq_reading_t *reading) {
+    return reading->bytes[FSQ_READ_EXTENSION_AT];
+}
+
+/* The address in a read instruction of an operand's 8 bytes. */
+static inline const uint8_t *fsq_reading_operand(const fsq_reading_t *reading, unsigned operand) {
+    return reading->bytes + (operand == 0 ? FSQ_READ_FIRST_AT : FSQ_READ_SECOND_AT);
+}
+
+/* An operand's kind, or FSQ_READ_NONE where the form has no such operand. */
+static inline enum fsq_read_kind fsq_reading_kind(const fsq_reading_t *reading, unsigned operand) {
+    return (enum fsq_read_kind) fsq_reading_operand(reading, operand)[FSQ_READ_KIND_AT];
+}
+
+/* A register's number, 0 to 7; of a segment register a number of enum fsq_segment; of memory one of enum fsq_base. */
+static inline uint8_t fsq_reading_number(const fsq_reading_t *reading, unsigned operand) {
+    return fsq_reading_operand(reading, operand)[FSQ_READ_NUMBER_AT];
+}
+
+/* The segment register in effect of memory. */
+static inline enum fsq_segment fsq_reading_segment(const fsq_reading_t *reading, unsigned operand) {
+    return (enum fsq_segment) fsq_reading_operand(reading, operand)[FSQ_READ_SEGMENT_AT];
+}
+
+/* The displacement of memory, an immediate, or the offset of a target. */
+static inline uint16_t fsq_reading_value(const fsq_reading_t *reading, unsigned operand) {
+    return fsq_get_u16(fsq_reading_operand(reading, operand) + FSQ_READ_VALUE_AT);
+}
+
+/* The segment of a far target. */
+static inline uint16_t fsq_reading_far_segment(const fsq_reading_t *reading, unsigned operand) {
+    return fsq_get_u16(fsq_reading_operand(reading, operand) + FSQ_READ_FAR_SEGMENT_AT);
+}
+
+/* Names. */
+
+/* The name of a refusal, as enum fsq_answer has it without FSQ_.
+ *   answer    what an inline function answers; what one of the library's answers is to be made negative
+ *   answers   the name; "DONE" of 0 and every length, "UNKNOWN" below -15
+ */
+static inline const char *fsq_refusal_name(int answer) {
+    static const char *const names[] = {
+        "DONE", "INVALID_OPERANDS", "OPERAND_SIZE_NOT_SPECIFIED", "OPERAND_SIZES_DO_NOT_MATCH", "INVALID_OPERAND_SIZE",
+        "IMMEDIATE_OUT_OF_RANGE", "RELATIVE_JUMP_OUT_OF_RANGE", "NOT_SUPPORTED", "NOT_WELL_FORMED", "SLICE_TOO_SHORT",
+        "NOT_AN_INSTRUCTION", "NOT_COMPLETE", "NO_MARK", "WRONG_VERSION", "WRONG_LENGTH", "UNKNOWN_CODE", "UNKNOWN"
+    };
+    return names[answer >= 0 ? 0 : answer < -FSQ_UNKNOWN_CODE ? FSQ_UNKNOWN_CODE + 1 : -answer];
+}
+
+/* A refusal in words.
+ *   answer    as of fsq_refusal_name
+ *   answers   a sentence
+ */
+static inline const char *fsq_refusal_sentence(int answer) {
+    static const char *const sentences[] = {
+        "Nothing is refused.",
+        "No form of the operation takes these operands.",
+        "No operand states whether a byte or a word is meant.",
+        "One operand is a byte and the other a word.",
+        "The operation does not take an operand of this size, or none is stated.",
+        "An immediate, address, port, target or segment is outside its limits.",
+        "The target is too far for a short jump.",
+        "The encoder does not have this instruction.",
+        "The operand count is above 2, or an operand's fields contradict each other.",
+        "The lent slice is too short.",
+        "No instruction begins with these bytes.",
+        "The bytes are the front of an instruction, and more are needed.",
+        "The file does not begin with \"FSQ\".",
+        "The file's version is not 1.",
+        "The file is not as long as its count says, the count is above 1,000, or a record has not 56 bytes.",
+        "A record has an operation, kind, size or jump kind that does not exist.",
+        "This header does not know the refusal."
+    };
+    return sentences[answer >= 0 ? 0 : answer < -FSQ_UNKNOWN_CODE ? FSQ_UNKNOWN_CODE + 1 : -answer];
+}
+
+/* The name of an operation.
+ *   operation   the operation
+ *   answers     the name, as "MOV"; "UNKNOWN" where there is no such operation
+ */
+static inline const char *fsq_operation_name(enum fsq_operation operation) {
+    static const char *const names[] = {
+        "MOV", "PUSH", "POP", "XCHG", "IN", "OUT", "XLATB", "LEA", "LDS", "LES", "LAHF", "SAHF", "PUSHF", "POPF", "ADD", "ADC", "INC",
+        "AAA", "DAA", "SUB", "SBB", "DEC", "NEG", "CMP", "AAS", "DAS", "MUL", "IMUL", "AAM", "DIV", "IDIV", "AAD", "CBW", "CWD", "NOT",
+        "SHL", "SHR", "SAR", "ROL", "ROR", "RCL", "RCR", "AND", "TEST", "OR", "XOR", "REP", "REPNE", "MOVSB", "MOVSW", "CMPSB", "CMPSW",
+        "SCASB", "SCASW", "LODSB", "LODSW", "STOSB", "STOSW", "CALL", "JMP", "RET", "JE", "JL", "JLE", "JB", "JBE", "JP", "JO", "JS",
+        "JNE", "JNL", "JNLE", "JNB", "JNBE", "JNP", "JNO", "JNS", "LOOP", "LOOPZ", "LOOPNZ", "JCXZ", "INT", "INT1", "INT3", "INTO",
+        "IRET", "CLC", "CMC", "STC", "CLD", "STD", "CLI", "STI", "HLT", "WAIT", "ESC", "LOCK", "NOP", "SALC", "UNKNOWN"
+    };
+    return names[(unsigned) operation <= (unsigned) FSQ_SALC ? (unsigned) operation : (unsigned) FSQ_SALC + 1u];
+}
+
+/* Show files. */
+
+/* Writes the header of a show file.
+ *   file, file_len   gets the header at its front, 9 bytes; its later bytes stay
+ *   origin           the offset of the first record
+ *   count            the number of records
+ *   answers          the length of the header, 9; -14 where count is above 1,000, then -9 where file_len is below 9; then nothing is written
+ */
+static inline int fsq_write_header(uint8_t *file, size_t file_len, uint16_t origin, uint16_t count) {
+    if (count > FSQ_MOST_RECORDS)
+        return -FSQ_WRONG_LENGTH;
+    if (file == NULL || file_len < FSQ_HEADER_LENGTH)
+        return -FSQ_SLICE_TOO_SHORT;
+    file[FSQ_HEADER_MARK_AT] = 0x46;
+    file[FSQ_HEADER_MARK_AT + 1] = 0x53;
+    file[FSQ_HEADER_MARK_AT + 2] = 0x51;
+    fsq_put_u16(file + FSQ_HEADER_VERSION_AT, FSQ_FILE_VERSION);
+    fsq_put_u16(file + FSQ_HEADER_ORIGIN_AT, origin);
+    fsq_put_u16(file + FSQ_HEADER_COUNT_AT, count);
+    return FSQ_HEADER_LENGTH;
+}
+
+/* Writes a record of a show file.
+ *   file, file_len   gets the record at 9 + 56 * number; its other bytes stay
+ *   number           the record, from 0
+ *   record           the record, copied
+ *   answers          the length of the file to the end of this record; -14 where number is above 999 or record null, then -9 where the file is
+ *                    shorter than that; then nothing is written
+ */
+static inline int fsq_write_record(uint8_t *file, size_t file_len, uint16_t number, const fsq_record_t *record) {
+    size_t at = FSQ_HEADER_LENGTH + (size_t) number * FSQ_RECORD_LENGTH, i;
+    if (number >= FSQ_MOST_RECORDS || record == NULL)
+        return -FSQ_WRONG_LENGTH;
+    if (file == NULL || file_len < at + FSQ_RECORD_LENGTH)
+        return -FSQ_SLICE_TOO_SHORT;
+    for (i = 0; i < FSQ_RECORD_LENGTH; i++)
+        file[at + i] = record->bytes[i];
+    return (int) at + FSQ_RECORD_LENGTH;
+}
 
 #ifdef __cplusplus
 }

@@ -1,4 +1,5 @@
-//! Links the static library that `rt staticlib foreign` writes, or the file that FSQ_LIBRARY names.
+//! Links libfsq.a, which tools/staticlib writes to target/staticlib, or the file that FSQ_LIBRARY names. Where there is none, `cargo check` and
+//! `cargo doc` work all the same; what has to link says that the native static library `fsq` is missing.
 
 use std::env;
 use std::fs;
@@ -6,16 +7,27 @@ use std::path::{Path, PathBuf};
 
 fn main() {
     println!("cargo:rerun-if-env-changed=FSQ_LIBRARY");
-    let library = match env::var_os("FSQ_LIBRARY") {
-        Some(path) => PathBuf::from(path),
-        None => Path::new(env!("CARGO_MANIFEST_DIR")).join("../../target/staticlib/libforeign.a"),
+    let built = Path::new(env!("CARGO_MANIFEST_DIR")).join("../../target/staticlib");
+    let libraries = match env::var_os("FSQ_LIBRARY") {
+        Some(path) => vec![PathBuf::from(path)],
+        // Without the link that tools/staticlib makes, what `rt staticlib foreign` writes.
+        None => vec![built.join("libfsq.a"), built.join("libforeign.a")],
     };
-    println!("cargo:rerun-if-changed={}", library.display());
+    for library in &libraries {
+        println!("cargo:rerun-if-changed={}", library.display());
+    }
+    let library = libraries.iter().find(|library| library.exists()).unwrap_or(&libraries[0]);
     // A copy under its own name: the file may have any.
     let out = PathBuf::from(env::var_os("OUT_DIR").expect("cargo sets OUT_DIR"));
-    if let Err(why) = fs::copy(&library, out.join("libforeign.a")) {
-        panic!("{}: {why}; `rt staticlib foreign` writes it, or FSQ_LIBRARY names it", library.display());
+    let copy = out.join("libfsq.a");
+    if let Err(why) = fs::copy(library, &copy) {
+        // An older copy is not linked in its place.
+        let _ = fs::remove_file(&copy);
+        println!(
+            "cargo:warning={}: {why}; nothing links without it: tools/staticlib writes it, or FSQ_LIBRARY names it",
+            library.display()
+        );
     }
     println!("cargo:rustc-link-search=native={}", out.display());
-    println!("cargo:rustc-link-lib=static=foreign");
+    println!("cargo:rustc-link-lib=static=fsq");
 }

@@ -15,57 +15,57 @@ static int fault(const char *name) {
 
 uint8_t fsq_encode(const uint8_t *record, size_t n, uint16_t offset, uint8_t *out, size_t m, uint8_t *report, size_t k) {
     uint8_t answer;
-    int accepted, reported = k >= 28;
+    int accepted, reported = k >= FSQ_REPORT_LENGTH;
     if (fault("byte-before-a-refusal") && m > 0)
         out[0] = 0x83;
     if (fault("record-written"))
         ((volatile uint8_t *) record)[0] = record[0];
     answer = right_encode(record, n, offset, out, m, report, k);
-    accepted = answer == 0;
-    // RCL, operation 40, which stands in no example and no test of the crate
-    if (fault("wrong-byte") && accepted && record[0] == 40)
+    accepted = answer == FSQ_DONE;
+    // RCL stands in no example and no test of the crate
+    if (fault("wrong-byte") && accepted && record[FSQ_OPERATION_AT] == FSQ_RCL)
         out[0] ^= 1;
-    if (fault("byte-behind-the-run") && accepted && m > 7)
-        out[7] = 1;
+    if (fault("byte-behind-the-run") && accepted && m > FSQ_STRING_LENGTH)
+        out[FSQ_STRING_LENGTH] = 1;
     if (fault("byte-behind-the-slice") && accepted)
         ((volatile uint8_t *) out)[m] = out[m];
-    if (fault("byte-behind-a-short-report") && k == 27)
-        report[27] = 0;
-    if (fault("wrong-number") && answer == 7)
-        answer = 8;
+    if (fault("byte-behind-a-short-report") && k == FSQ_REPORT_LENGTH - 1)
+        report[k] = 0;
+    if (fault("wrong-number") && answer == FSQ_NOT_SUPPORTED)
+        answer = FSQ_NOT_WELL_FORMED;
     if (fault("wrong-span") && !accepted && reported)
-        report[4] ^= 1;
-    if (fault("wrong-limit") && answer == 5 && reported)
-        report[20] ^= 1;
+        report[FSQ_REPORT_SPAN_START_AT] ^= 1;
+    if (fault("wrong-limit") && answer == FSQ_IMMEDIATE_OUT_OF_RANGE && reported)
+        report[FSQ_REPORT_HIGH_AT] ^= 1;
     if (fault("a-record-named") && !accepted && reported)
-        memset(report + 24, 0, 4);
+        memset(report + FSQ_REPORT_RECORD_AT, 0, 4);
     return answer;
 }
 
 uint8_t fsq_list(const uint8_t *record, size_t n, uint16_t offset, uint8_t *out, size_t m, uint8_t *report, size_t k) {
     uint8_t answer = right_list(record, n, offset, out, m, report, k);
-    if (fault("last-entry-missing") && answer == 0 && k >= 28)
-        memset(out + 8 * (size_t) --report[0], 0, 8);
+    if (fault("last-entry-missing") && answer == FSQ_DONE && k >= FSQ_REPORT_LENGTH)
+        memset(out + FSQ_ENTRY_LENGTH * (size_t) --report[FSQ_REPORT_LENGTH_AT], 0, FSQ_ENTRY_LENGTH);
     return answer;
 }
 
 uint8_t fsq_read(const uint8_t *bytes, size_t n, uint16_t offset, uint8_t *out, size_t m) {
     uint8_t answer = right_read(bytes, n, offset, out, m);
-    int whole = answer == 0 && m >= 24;
+    int whole = answer == FSQ_DONE && m >= FSQ_READING_LENGTH;
     if (fault("length-one-more") && whole && bytes[0] == 0xD7)
-        out[0]++;
-    if (fault("another-base") && whole && out[8] == 3)
-        out[9] ^= 1;
-    if (fault("10-for-11") && answer == 11)
-        return 10;
+        out[FSQ_READ_LENGTH_AT]++;
+    if (fault("another-base") && whole && out[FSQ_READ_FIRST_AT + FSQ_READ_KIND_AT] == FSQ_READ_MEMORY)
+        out[FSQ_READ_FIRST_AT + FSQ_READ_NUMBER_AT] ^= 1;
+    if (fault("10-for-11") && answer == FSQ_NOT_COMPLETE)
+        return FSQ_NOT_AN_INSTRUCTION;
     return answer;
 }
 
 uint8_t fsq_load(const uint8_t *file, size_t n, uint8_t *image, size_t m, uint8_t *report, size_t k) {
     uint8_t answer = right_load(file, n, image, m, report, k);
-    if (fault("index-one-more") && answer != 0 && k >= 28 && report[24] < 255)
-        report[24]++;
-    if (fault("wrong-last-byte") && answer == 0 && k >= 28 && (report[0] | report[1]) != 0)
-        image[(report[0] | report[1] << 8) - 1] ^= 1;
+    if (fault("index-one-more") && answer != FSQ_DONE && k >= FSQ_REPORT_LENGTH && report[FSQ_REPORT_RECORD_AT] < 255)
+        report[FSQ_REPORT_RECORD_AT]++;
+    if (fault("wrong-last-byte") && answer == FSQ_DONE && k >= FSQ_REPORT_LENGTH && fsq_get_u32(report + FSQ_REPORT_LENGTH_AT) != 0)
+        image[fsq_get_u32(report + FSQ_REPORT_LENGTH_AT) - 1] ^= 1;
     return answer;
 }

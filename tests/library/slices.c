@@ -1,8 +1,10 @@
-/* slices FILE: the four functions on lent slices of every length that can matter, with the records of a show file, whole and with a byte changed.
+/* slices FILE: the four functions and the header's inline functions over them on lent slices of every length that can matter, with the records of a
+ * show file, whole and with a byte changed.
  *
  * Every slice ends at a page that cannot be touched, or begins behind one, and what is only read cannot be written: a byte outside ends the program.
  * After each call is compared what it may change: on a refusal nothing but the report, else nothing behind what is answered; and the answer
- * does not depend on the report's length. */
+ * does not depend on the report's length. An inline function has to answer and write what the function below it does, also where a slice or a
+ * report is null; the library itself never gets a null address (the linker puts __wrap_ before its functions). */
 #include "fsq.h"
 #include <stdio.h>
 #include <stdlib.h>
@@ -54,16 +56,59 @@ static int stays_but(const uint8_t *room, const uint8_t *from, size_t length) {
     return memcmp(room, untouched, front) == 0 && memcmp(from + length, untouched, OUT - front - length) == 0;
 }
 
-static uint32_t told(const uint8_t *at) {
-    return at[0] | (uint32_t) at[1] << 8 | (uint32_t) at[2] << 16 | (uint32_t) at[3] << 24;
+static void failed(const char *function, const char *wrong, size_t length, size_t out_len, size_t report_len, int answer) {
+    if (failures++ < 20)
+        printf("slices: %s: %s (%zu, %zu and %zu bytes, answer %d)\n", function, wrong, length, out_len, report_len, answer);
+}
+
+/* The lengths that the library got last, of what is read and of what is written. */
+static size_t read_len, written_len;
+
+/* The library may not get a null address. */
+static void handed(const char *function, const void *from, size_t n, const void *to, size_t m, const void *told) {
+    read_len = n;
+    written_len = m;
+    if (from == NULL || to == NULL || told == NULL)
+        failed(function, "gets a null address", n, m, 0, 0);
+}
+
+uint8_t __real_fsq_encode(const uint8_t *, size_t, uint16_t, uint8_t *, size_t, uint8_t *, size_t);
+uint8_t __real_fsq_list(const uint8_t *, size_t, uint16_t, uint8_t *, size_t, uint8_t *, size_t);
+uint8_t __real_fsq_read(const uint8_t *, size_t, uint16_t, uint8_t *, size_t);
+uint8_t __real_fsq_load(const uint8_t *, size_t, uint8_t *, size_t, uint8_t *, size_t);
+uint8_t __wrap_fsq_encode(const uint8_t *, size_t, uint16_t, uint8_t *, size_t, uint8_t *, size_t);
+uint8_t __wrap_fsq_list(const uint8_t *, size_t, uint16_t, uint8_t *, size_t, uint8_t *, size_t);
+uint8_t __wrap_fsq_read(const uint8_t *, size_t, uint16_t, uint8_t *, size_t);
+uint8_t __wrap_fsq_load(const uint8_t *, size_t, uint8_t *, size_t, uint8_t *, size_t);
+
+uint8_t __wrap_fsq_encode(const uint8_t *record, size_t n, uint16_t offset, uint8_t *o, size_t m, uint8_t *r, size_t k) {
+    handed("fsq_encode", record, n, o, m, r);
+    return __real_fsq_encode(record, n, offset, o, m, r, k);
+}
+
+uint8_t __wrap_fsq_list(const uint8_t *record, size_t n, uint16_t offset, uint8_t *o, size_t m, uint8_t *r, size_t k) {
+    handed("fsq_list", record, n, o, m, r);
+    return __real_fsq_list(record, n, offset, o, m, r, k);
+}
+
+uint8_t __wrap_fsq_read(const uint8_t *bytes, size_t n, uint16_t offset, uint8_t *o, size_t m) {
+    handed("fsq_read", bytes, n, o, m, o);
+    return __real_fsq_read(bytes, n, offset, o, m);
+}
+
+uint8_t __wrap_fsq_load(const uint8_t *file, size_t n, uint8_t *image, size_t m, uint8_t *r, size_t k) {
+    handed("fsq_load", file, n, image, m, r);
+    return __real_fsq_load(file, n, image, m, r, k);
 }
 
 enum function { ENCODE, LIST, READ, LOAD };
 
+/* The bytes that one of what a function counts has. */
+static const size_t each[] = {1, FSQ_ENTRY_LENGTH, 0, 1};
+
 /* One call. `bytes` is what it reads; the answer is compared with `first`, the one that a whole report came with, where that is not negative. */
 static int call(enum function function, const uint8_t *bytes, size_t length, uint16_t offset, size_t out_len, size_t report_len, int first) {
     static const char *names[] = {"fsq_encode", "fsq_list", "fsq_read", "fsq_load"};
-    static const size_t each[] = {1, FSQ_ENTRY_LENGTH, 0, 1};
     uint8_t *o = lend(out, out_len), *r = lend(report, report_len);
     const char *wrong = NULL;
     size_t written = 0;
@@ -75,7 +120,7 @@ static int call(enum function function, const uint8_t *bytes, size_t length, uin
     calls++;
     refusals += answer != FSQ_DONE;
     if (answer == FSQ_DONE)
-        written = function == READ ? (out_len >= FSQ_READING_LENGTH ? FSQ_READING_LENGTH : 0) : reported ? told(r) * each[function] : out_len;
+        written = function == READ ? (out_len >= FSQ_READING_LENGTH ? FSQ_READING_LENGTH : 0) : reported ? fsq_get_u32(r + FSQ_REPORT_LENGTH_AT) * each[function] : out_len;
     if (first >= 0 && answer != first)
         wrong = "the answer depends on the report's length";
     else if (written > out_len)
@@ -86,8 +131,8 @@ static int call(enum function function, const uint8_t *bytes, size_t length, uin
         wrong = "a byte beside the report is changed";
     else if (function == READ && written != 0 && (o[FSQ_READ_LENGTH_AT] == 0 || o[FSQ_READ_LENGTH_AT] > length))
         wrong = "a length that the bytes do not have";
-    if (wrong != NULL && failures++ < 20)
-        printf("slices: %s: %s (%zu, %zu and %zu bytes, answer %d)\n", names[function], wrong, length, out_len, report_len, answer);
+    if (wrong != NULL)
+        failed(names[function], wrong, length, out_len, report_len, answer);
     return answer;
 }
 
@@ -97,6 +142,86 @@ static void call_all(enum function function, const uint8_t *bytes, size_t length
     int first = call(function, bytes, length, offset, out_len, FSQ_REPORT_LENGTH, -1);
     for (size_t i = 0; i < sizeof reports / sizeof *reports && function != READ; i++)
         call(function, bytes, length, offset, out_len, reports[i], first);
+}
+
+/* An inline function beside the library's. `out_len` is that of ENCODE and LOAD; the others write a whole struct. Null are, by the bits of `nulls`, what is
+ * read (with its length), what is written (with its length) and the report. */
+static void call_inline(enum function function, const uint8_t *bytes, size_t length, uint16_t offset, size_t out_len, unsigned nulls) {
+    static const char *names[] = {"fsq_encode_at", "fsq_list_at", "fsq_read_at", "fsq_load_show"};
+    static uint8_t right[OUT];
+    uint8_t right_report[FSQ_REPORT_LENGTH] = {0}, number;
+    size_t room = function == LIST ? sizeof(fsq_list_t) : function == READ ? FSQ_READING_LENGTH : out_len, written;
+    size_t given = nulls & 1u ? 0 : length;
+    /* A reading that is not wanted is read all the same. */
+    size_t lent = nulls & 2u && function != READ ? 0 : function == LIST ? FSQ_LIST_LENGTH : room;
+    uint8_t *o = nulls & 2u ? NULL : lend(out, room);
+    fsq_report_t *r = nulls & 4u ? NULL : (fsq_report_t *) lend(report, sizeof *r);
+    const uint8_t *from = nulls & 1u ? NULL : bytes;
+    const char *wrong = NULL;
+    int answer, expected;
+    number = function == ENCODE ? fsq_encode(bytes, given, offset, right, lent, right_report, sizeof right_report)
+        : function == LIST ? fsq_list(bytes, given, offset, right, lent, right_report, sizeof right_report)
+        : function == READ ? fsq_read(bytes, given, offset, right, lent)
+        : fsq_load(bytes, given, right, lent, right_report, sizeof right_report);
+    answer = function == ENCODE ? fsq_encode_at((const fsq_record_t *) from, offset, o, out_len, r)
+        : function == LIST ? fsq_list_at((const fsq_record_t *) from, offset, (fsq_list_t *) o, r)
+        : function == READ ? fsq_read_at(from, length, offset, (fsq_reading_t *) o)
+        : fsq_load_show(from, length, o, out_len, r);
+    calls++;
+    refusals += number != FSQ_DONE;
+    expected = number != FSQ_DONE ? -(int) number : function == READ ? right[FSQ_READ_LENGTH_AT] : (int) fsq_get_u32(right_report + FSQ_REPORT_LENGTH_AT);
+    written = number != FSQ_DONE || o == NULL ? 0 : function == READ ? FSQ_READING_LENGTH : (size_t) expected * each[function];
+    if (o != NULL && function == LIST) {
+        if (((fsq_list_t *) o)->count != (number == FSQ_DONE ? expected : 0))
+            wrong = "another number of entries";
+        ((fsq_list_t *) o)->count = LENT;
+    }
+    if (wrong != NULL)
+        ;
+    else if (read_len != given || written_len != lent)
+        wrong = "other lengths than were given";
+    else if (answer != expected)
+        wrong = "another answer than the library's";
+    else if (o != NULL && memcmp(o, right, written) != 0)
+        wrong = "other bytes than the library's";
+    else if (o != NULL && !stays_but(out, o, written))
+        wrong = "a byte is changed that stays";
+    else if (function != READ && r != NULL && memcmp(r, right_report, sizeof *r) != 0)
+        wrong = "another report than the library's";
+    else if (function != READ && r != NULL && !stays_but(report, r->bytes, sizeof *r))
+        wrong = "a byte beside the report is changed";
+    if (wrong != NULL)
+        failed(names[function], wrong, given, lent, r == NULL ? 0 : sizeof *r, answer);
+}
+
+/* With every choice of what is null; a null pointer comes with its length and with 0. */
+static void call_inline_all(enum function function, const uint8_t *bytes, size_t length, size_t out_len) {
+    uint16_t offset = (uint16_t) below(65536);
+    for (unsigned nulls = 0; nulls < 8; nulls++)
+        call_inline(function, bytes, nulls & 1u && nulls & 2u ? 0 : length, offset, nulls & 2u && nulls & 4u ? 0 : out_len, nulls);
+}
+
+/* A header and a record into a file of each length that can matter, and into none. */
+static void write_inline(const fsq_record_t *record) {
+    static const size_t ends[] = {FSQ_HEADER_LENGTH, FSQ_HEADER_LENGTH + FSQ_RECORD_LENGTH, FSQ_HEADER_LENGTH + 3 * FSQ_RECORD_LENGTH};
+    for (size_t i = 0; i < sizeof ends / sizeof *ends; i++)
+        for (size_t more = 0; more < 4; more++) {
+            size_t length = more == 3 ? 0 : ends[i] + more - 1, at = i == 0 ? 0 : ends[i] - FSQ_RECORD_LENGTH, n = i == 0 ? ends[0] : FSQ_RECORD_LENGTH;
+            uint8_t *file = more == 3 ? NULL : lend(out, length);
+            int answer = i == 0 ? fsq_write_header(file, length, 4660, 3) : fsq_write_record(file, length, (uint16_t) (i == 1 ? 0 : 2), record);
+            int fits = length >= ends[i];
+            const char *wrong = NULL;
+            calls++;
+            refusals += answer < 0;
+            if (answer != (fits ? (int) ends[i] : -FSQ_SLICE_TOO_SHORT))
+                wrong = "another answer";
+            else if (file != NULL && !stays_but(out, fits ? file + at : file, fits ? n : 0))
+                wrong = "a byte is changed that stays";
+            else if (fits && i != 0 && memcmp(file + at, record, sizeof *record) != 0)
+                wrong = "another record";
+            if (wrong != NULL)
+                failed(i == 0 ? "fsq_write_header" : "fsq_write_record", wrong, length, ends[i], 0, answer);
+        }
 }
 
 int main(int argc, char **argv) {
@@ -127,10 +252,16 @@ int main(int argc, char **argv) {
                 file[length + i] = (uint8_t) below(256);
             file[length] = (uint8_t) (at / FSQ_RECORD_LENGTH + 256 / 4 * (size_t) change);
             call_all(READ, lend_in(file + length, bytes_len, 0), bytes_len, readings[below(5)]);
+            call_inline_all(READ, lend_in(file + length, bytes_len, 0), bytes_len, 0);
+            record = lend_in(file + at, FSQ_RECORD_LENGTH, change);
+            call_inline_all(ENCODE, record, FSQ_RECORD_LENGTH, strings[below(10)]);
+            call_inline_all(LIST, record, FSQ_RECORD_LENGTH, 0);
+            write_inline((const fsq_record_t *) record);
         }
     for (int i = 0; i < 200; i++) {
         size_t file_len = i % 4 == 0 ? length : below((uint32_t) length + 8), image_len = i % 3 == 0 ? OUT : below(OUT);
         call_all(LOAD, lend_in(file, file_len, i % 2), file_len, image_len);
+        call_inline_all(LOAD, lend_in(file, file_len, i % 2), file_len, image_len);
     }
     printf("slices: %lu calls, %lu refused, %lu failed\n", calls, refusals, failures);
     return failures != 0 || refusals == 0 || refusals == calls;

@@ -8,66 +8,60 @@ not the records') and 'mark BYTES'; 'field NAME N' behind a record sets a byte o
 are decimal."""
 import pathlib
 import re
-import struct
 import subprocess
 import sys
 import tempfile
 
 HERE = pathlib.Path(__file__).resolve().parent
 sys.path.insert(0, str(HERE.parent.parent / 'tools'))
-from operations import OPERATIONS
+from operations import (
+    BASES, BYTE, BYTE_REGISTERS, FAR, FIRST, HEADER, IMM, KINDS, JUMPS, MARK, MEM, NEAR, NO_KIND, OPERAND, OPERATIONS, RECORD, REG, SECOND, SEG, SEGMENTS, SHORT,
+    SIZES, UNSPECIFIED, VERSION, WORD, WORD_REGISTERS)
 
 SAMPLE = HERE.parent.parent / 'crates/test_vectors/data/sample.txt'
 FIRST_BRANCH, LAST_BRANCH = OPERATIONS.index('CALL'), OPERATIONS.index('JCXZ')
-BYTES = ['AL', 'CL', 'DL', 'BL', 'AH', 'CH', 'DH', 'BH']
-WORDS = ['AX', 'CX', 'DX', 'BX', 'SP', 'BP', 'SI', 'DI']
-SEGMENTS = ['ES', 'CS', 'SS', 'DS']
-BASES = ['BX+SI', 'BX+DI', 'BP+SI', 'BP+DI', 'SI', 'DI', 'BP', 'BX']
-IMM, REG, SEG, MEM = range(4)
-SIZES = {'': 0, 'byte': 1, 'word': 2}
-JUMPS = {'': 0, 'far': 1, 'near': 2, 'short': 3}
-# A record: operation, operand count, span, then each operand: kind, size, prefix, displacement size, jump kind, mode, r/m, imm, displacement, span.
-OPERAND = struct.Struct('<BBBBBBBiiII')
+SAID_SIZES = {'': UNSPECIFIED, 'byte': BYTE, 'word': WORD}
+SAID_JUMPS = {'': NO_KIND, 'far': FAR, 'near': NEAR, 'short': SHORT}
 FIELDS = {'operation': 0, 'count': 1}
-for number, start in (('1', 10), ('2', 33)):
+for number, start in (('1', FIRST), ('2', SECOND)):
     for place, name in enumerate(['kind', 'size', 'prefix', 'displacement-size', 'jump', 'mode', 'rm']):
         FIELDS[name + number] = start + place
 
 
 def operand(text):
-    kind, size, prefix, disp_size, mode, rm, imm, disp = IMM, 0, 0, 0, 0, 0, 0, 0
+    kind, size, prefix, disp_size, mode, rm, imm, disp = IMM, UNSPECIFIED, 0, UNSPECIFIED, 0, 0, 0, 0
     jump, text = re.fullmatch(r'(far|near|short)? ?(.*)', text).groups(default='')
     memory = re.fullmatch(r'(byte|word)? ?\[(.*)\]', text)
-    if text in BYTES:
-        kind, size, mode, rm = REG, 1, 3, BYTES.index(text)
-    elif text in WORDS:
-        kind, size, mode, rm = REG, 2, 3, WORDS.index(text)
+    if text in BYTE_REGISTERS:
+        kind, size, mode, rm = REG, BYTE, 3, BYTE_REGISTERS.index(text)
+    elif text in WORD_REGISTERS:
+        kind, size, mode, rm = REG, WORD, 3, WORD_REGISTERS.index(text)
     elif text in SEGMENTS:
-        kind, size, mode, rm = SEG, 2, 3, SEGMENTS.index(text)
+        kind, size, mode, rm = SEG, WORD, 3, SEGMENTS.index(text)
     elif memory:
-        kind, size = MEM, SIZES[memory[1] or '']
+        kind, size = MEM, SAID_SIZES[memory[1] or '']
         base, disp = re.fullmatch(r'([A-Z]{2}(?:\+[A-Z]{2})?)?\+?(\d*)', memory[2]).groups()
         disp = int(disp or 0)
         if not base:
-            mode, rm, disp_size = 0, 6, 2
+            mode, rm, disp_size = 0, 6, WORD
         else:
             rm = BASES.index(base)
-            mode, disp_size = (0, 0) if disp == 0 and base != 'BP' else (1, 1) if disp < 128 else (2, 2)
+            mode, disp_size = (0, UNSPECIFIED) if disp == 0 and base != 'BP' else (1, BYTE) if disp < 128 else (2, WORD)
     else:
         imm = int(text)
-    return OPERAND.pack(kind, size, prefix, disp_size, JUMPS[jump], mode, rm, imm, disp, 0, 0)
+    return OPERAND.pack(kind, size, prefix, disp_size, SAID_JUMPS[jump], mode, rm, imm, disp, 0, 0)
 
 
 def record(text):
     operation, _, rest = text.partition(' ')
     operands = [operand(o.strip()) for o in rest.split(',')] if rest else []
     unused = operand('0')
-    return bytearray(struct.pack('<BBII', OPERATIONS.index(operation), len(operands), 0, 0) + b''.join((operands + [unused] * 2)[:2]))
+    return bytearray(RECORD.pack(OPERATIONS.index(operation), len(operands), 0, 0) + b''.join((operands + [unused] * 2)[:2]))
 
 
 def show(text):
     """The file and its listing."""
-    mark, version, origin, count, records, answers, cut, more = b'FSQ', 1, 0, None, [], [], None, 0
+    mark, version, origin, count, records, answers, cut, more = MARK, VERSION, 0, None, [], [], None, 0
     for line in text.splitlines():
         line = line.split('#')[0].strip()
         words = line.split()
@@ -101,7 +95,7 @@ def show(text):
             break
         else:
             raise ValueError(line)
-    packed = mark + struct.pack('<HHH', version, origin, len(records) if count is None else count) + b''.join(records) + bytes(more)
+    packed = mark + HEADER.pack(version, origin, len(records) if count is None else count) + b''.join(records) + bytes(more)
     refusal = text_refusal(answers)
     if refusal:
         return packed[:cut], refusal
@@ -135,10 +129,11 @@ REFUSED = {
     6: ['JE 60000 | refused 6'],
     7: ['INT1 | refused 7'],
     8: [AAM, 'field count 3', 'answer refused 8'],
-    15: [AAM, 'field operation 99', 'answer refused 15'],
+    15: [AAM, f'field operation {len(OPERATIONS)}', 'answer refused 15'],
 }
-# the first number that is no code: 99 operations; kinds, sizes and jump kinds from 0
-UNKNOWN = {'operation': 99, 'kind1': 4, 'size1': 3, 'displacement-size1': 3, 'jump1': 4, 'kind2': 4, 'size2': 3, 'displacement-size2': 3, 'jump2': 4}
+# the first number that is no code
+UNKNOWN = {'operation': len(OPERATIONS)} | {name + operand: len(codes) for operand in '12' for name, codes in (
+    ('kind', KINDS), ('size', SIZES), ('displacement-size', SIZES), ('jump', JUMPS))}
 # what document 02, Nos. 1, 2 and 4, turn away
 ADDED_REFUSED = ['TEST BL,300 | refused 5', 'TEST AX,65536 | refused 5', 'TEST [BX],5 | refused 2', 'TEST AX,CL | refused 3', 'TEST AX,DS | refused 1',
     'PUSH byte [BX] | refused 1', 'PUSH [BX] | refused 1', 'POP byte [BX] | refused 4', 'POP [BX] | refused 4', 'RET -1 | refused 5', 'RET 65536 | refused 5',
@@ -183,9 +178,9 @@ def cases():
     yield 'record-100', [AAM] * 100 + REFUSED[7] + [AAM]
     yield 'record-999', [AAM] * 999 + REFUSED[7]
     for place in range(3):
-        mark = [0x46, 0x53, 0x51]
+        mark = bytearray(MARK)
         mark[place] ^= 0x20
-        yield f'mark-{place}', [f'mark {bytes(mark).hex()}', AAM, 'refused 12 -']
+        yield f'mark-{place}', [f'mark {mark.hex()}', AAM, 'refused 12 -']
     for length in range(3):
         yield f'bytes-{length}', [f'cut {length}', 'refused 12 -']
     for length in range(3, 9):

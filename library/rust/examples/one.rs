@@ -12,7 +12,7 @@ fn main() -> Result<(), Refusal> {
 
     let mov = Instruction::two(Operation::MOV, Operand::memory(Base::BX, 0).byte(), 300);
     if let Err(refusal) = encode(&mov, 256) {
-        println!("refused: {}, {refusal}", refusal.number());
+        println!("refused: {}, {}", refusal.number(), refusal.reason);
     }
     Ok(())
 }

@@ -1,23 +1,37 @@
 //! Encoding.
 
+use crate::bindings::FSQ_STRING_LENGTH;
 use crate::instruction::Instruction;
 use crate::library;
 use crate::refusal::Refusal;
-use std::fmt;
-use std::ops::Deref;
+use core::array;
+use core::fmt;
+use core::iter::Take;
+use core::ops::Deref;
+use core::slice;
 
 /// The bytes of one instruction, 1 to 7. It is a slice of them, and prints as `83 07 05`.
+///
+/// ```
+/// use fsq::{encode, Instruction, Operation};
+///
+/// // Document 01's bench sheet: AAM is D4 0A.
+/// let bytes = encode(&Instruction::none(Operation::AAM), 0)?;
+/// assert_eq!(bytes, [0xD4, 0x0A]);
+/// assert_eq!(&bytes[1..], [0x0A]);
+/// assert_eq!(bytes.into_iter().map(u32::from).sum::<u32>(), 0xDE);
+/// # Ok::<(), fsq::Refusal>(())
+/// ```
 #[derive(Clone, Copy, Default, PartialEq, Eq, Hash)]
 pub struct Bytes {
     length: u8,
-    bytes: [u8; 7],
+    bytes: [u8; FSQ_STRING_LENGTH],
 }
 
 impl Bytes {
-    pub(crate) fn new(string: &[u8]) -> Bytes {
-        let mut bytes = [0; 7];
-        bytes[..string.len()].copy_from_slice(string);
-        Bytes { length: string.len() as u8, bytes }
+    /// So many of these bytes; the others are zeros.
+    pub(crate) fn new(length: u8, bytes: [u8; FSQ_STRING_LENGTH]) -> Bytes {
+        Bytes { length, bytes }
     }
 }
 
@@ -29,11 +43,51 @@ impl Deref for Bytes {
     }
 }
 
-impl<const N: usize> PartialEq<[u8; N]> for Bytes {
-    fn eq(&self, other: &[u8; N]) -> bool {
-        self[..] == other[..]
+impl AsRef<[u8]> for Bytes {
+    fn as_ref(&self) -> &[u8] {
+        self
     }
 }
+
+impl IntoIterator for Bytes {
+    type Item = u8;
+    type IntoIter = Take<array::IntoIter<u8, FSQ_STRING_LENGTH>>;
+
+    fn into_iter(self) -> Self::IntoIter {
+        self.bytes.into_iter().take(self.length as usize)
+    }
+}
+
+impl<'a> IntoIterator for &'a Bytes {
+    type Item = &'a u8;
+    type IntoIter = slice::Iter<'a, u8>;
+
+    fn into_iter(self) -> Self::IntoIter {
+        self.iter()
+    }
+}
+
+/// Equality with what has bytes, in both orders.
+macro_rules! equal_as_slices {
+    ($([$($parameter:tt)*] $other:ty),* $(,)?) => {$(
+        impl<$($parameter)*> PartialEq<$other> for Bytes {
+            fn eq(&self, other: &$other) -> bool {
+                self[..] == other[..]
+            }
+        }
+
+        impl<$($parameter)*> PartialEq<Bytes> for $other {
+            fn eq(&self, other: &Bytes) -> bool {
+                self[..] == other[..]
+            }
+        }
+    )*};
+}
+
+equal_as_slices!([] [u8], [] &[u8], [const N: usize] [u8; N], [const N: usize] &[u8; N]);
+
+#[cfg(feature = "alloc")]
+equal_as_slices!([] alloc::vec::Vec<u8>);
 
 impl fmt::Display for Bytes {
     fn fmt(&self, f: &mut fmt::Formatter<'_>) -> fmt::Result {
@@ -59,7 +113,7 @@ impl fmt::Debug for Bytes {
 /// // Document 01's bench sheet: JE at 256 to 130 is 74 80, and to 129 refused with 6.
 /// assert_eq!(encode(&Instruction::one(Operation::JE, 130), 256)?, [0x74, 0x80]);
 /// let refusal = encode(&Instruction::one(Operation::JE, 129), 256).unwrap_err();
-/// assert_eq!(refusal.to_string(), "the target is -129 bytes away, outside -128..127");
+/// assert_eq!(refusal.to_string(), "refusal 6: the target is -129 bytes away, outside -128..127");
 /// # Ok::<(), fsq::Refusal>(())
 /// ```
 pub fn encode(instruction: &Instruction, offset: u16) -> Result<Bytes, Refusal> {
@@ -78,7 +132,7 @@ pub fn encode(instruction: &Instruction, offset: u16) -> Result<Bytes, Refusal> 
 /// # Ok::<(), fsq::Refusal>(())
 /// ```
 pub fn encode_record(record: &[u8], offset: u16) -> Result<Bytes, Refusal> {
-    let mut out = [0; 7];
+    let mut out = [0; FSQ_STRING_LENGTH];
     let length = library::encode(record, offset, &mut out)?;
-    Ok(Bytes::new(&out[..length]))
+    Ok(Bytes::new(length as u8, out))
 }

@@ -23,13 +23,21 @@
 //! let refusal = encode(&mov, 0).unwrap_err();
 //! assert_eq!(refusal.number(), 5);
 //! assert_eq!(refusal.reason, Reason::ImmediateOutOfRange { value: 300, low: -128, high: 255 });
-//! assert_eq!(refusal.to_string(), "value 300 is outside -128..255");
+//! assert_eq!(refusal.to_string(), "refusal 5: value 300 is outside -128..255");
 //! ```
 //!
-//! The functions keep nothing between calls, and several threads may call them at once.
+//! The functions keep nothing between calls, and several threads may call them at once. They are proved; the text of instructions and operands
+//! is not.
+//!
+//! Without the feature `std`, which is on by default, the crate is `no_std` and allocates nothing: `load`, `show_file` and `Show::load` are left
+//! out, and [`Show::load_into`] loads into a lent slice. The feature `alloc` has them without `std`.
 
+#![no_std]
 #![deny(missing_docs)]
 #![deny(unsafe_code)]
+
+#[cfg(feature = "alloc")]
+extern crate alloc;
 
 mod bindings;
 mod encoding;
@@ -43,6 +51,7 @@ mod operation;
 mod reading;
 mod refusal;
 mod show;
+mod text;
 
 pub use encoding::{encode, encode_record, Bytes};
 pub use instruction::{Instruction, RECORD_LENGTH};
@@ -50,5 +59,13 @@ pub use listing::{list, list_record, List};
 pub use operand::{Base, Jump, Operand, Register, Segment, Size, Span};
 pub use operation::Operation;
 pub use reading::{read, Extension, Part, Reading};
-pub use refusal::{Reason, Refusal};
+pub use refusal::{Found, Reason, Refusal};
+#[cfg(feature = "alloc")]
 pub use show::{load, show_file};
+pub use show::{Record, Records, Show};
+pub use text::ParseError;
+
+/// The examples of README.md.
+#[cfg(all(doctest, feature = "std"))]
+#[doc = include_str!("../README.md")]
+struct Readme;

@@ -3,54 +3,73 @@
 //! Every slice that crosses is a Rust slice, so its address is not null and it is valid for its length; `&mut` slices overlap with no other. The
 //! functions write nothing outside of them, and only what a call's contract says.
 
-use crate::bindings::{fsq_encode, fsq_list, fsq_load, fsq_read};
-use crate::refusal::{Reason, Refusal};
+use crate::bindings::{
+    fsq_encode, fsq_list, fsq_load, fsq_read, FSQ_DONE, FSQ_NO_RECORD, FSQ_READING_LENGTH, FSQ_REPORT_HIGH_AT, FSQ_REPORT_LENGTH,
+    FSQ_REPORT_LENGTH_AT, FSQ_REPORT_LOW_AT, FSQ_REPORT_RECORD_AT, FSQ_REPORT_SPAN_END_AT, FSQ_REPORT_SPAN_START_AT, FSQ_REPORT_VALUE_AT,
+    FSQ_SLICE_TOO_SHORT,
+};
+use crate::refusal::{Found, Reason, Refusal};
 
-const REPORT_LENGTH: usize = 28;
-const NO_RECORD: u32 = u32::MAX;
+type Report = [u8; FSQ_REPORT_LENGTH];
 
 /// The number of bytes at the front of out.
 pub fn encode(record: &[u8], offset: u16, out: &mut [u8]) -> Result<usize, Refusal> {
-    let mut report = [0; REPORT_LENGTH];
+    let mut report = [0; FSQ_REPORT_LENGTH];
     // SAFETY: live slices, of which the two that are written overlap with nothing.
     let number =
         unsafe { fsq_encode(record.as_ptr(), record.len(), offset, out.as_mut_ptr(), out.len(), report.as_mut_ptr(), report.len()) };
-    answered(number, &report)
+    answered(number, &report, |_| Found::in_record(number, record))
 }
 
 /// The number of entries at the front of out.
 pub fn list(record: &[u8], offset: u16, out: &mut [u8]) -> Result<usize, Refusal> {
-    let mut report = [0; REPORT_LENGTH];
+    let mut report = [0; FSQ_REPORT_LENGTH];
     // SAFETY: as in encode.
     let number = unsafe { fsq_list(record.as_ptr(), record.len(), offset, out.as_mut_ptr(), out.len(), report.as_mut_ptr(), report.len()) };
-    answered(number, &report)
+    answered(number, &report, |_| Found::in_record(number, record))
 }
 
 /// The read instruction.
-pub fn read(bytes: &[u8], offset: u16) -> Result<[u8; 24], Refusal> {
-    let mut out = [0; 24];
+pub fn read(bytes: &[u8], offset: u16) -> Result<[u8; FSQ_READING_LENGTH], Refusal> {
+    let mut out = [0; FSQ_READING_LENGTH];
     // SAFETY: live slices, of which the one that is written overlaps with nothing.
     let number = unsafe { fsq_read(bytes.as_ptr(), bytes.len(), offset, out.as_mut_ptr(), out.len()) };
-    match Reason::of(number, 0, 0, 0) {
-        Some(reason) => Err(Refusal { reason, span: None, record: None }),
-        None => Ok(out),
+    match number {
+        FSQ_DONE => Ok(out),
+        _ => Err(Refusal { reason: Reason::of(number, 0, 0, 0), span: None, record: None, found: None }),
     }
 }
 
 /// The number of bytes at the front of the image.
 pub fn load(file: &[u8], image: &mut [u8]) -> Result<usize, Refusal> {
-    let mut report = [0; REPORT_LENGTH];
+    let mut report = [0; FSQ_REPORT_LENGTH];
     // SAFETY: as in encode.
     let number = unsafe { fsq_load(file.as_ptr(), file.len(), image.as_mut_ptr(), image.len(), report.as_mut_ptr(), report.len()) };
-    answered(number, &report)
+    answered(number, &report, |record| Found::in_file(number, record, file))
 }
 
-fn answered(number: u8, report: &[u8; REPORT_LENGTH]) -> Result<usize, Refusal> {
-    let field = |n: usize| u32::from_le_bytes([report[4 * n], report[4 * n + 1], report[4 * n + 2], report[4 * n + 3]]);
-    match Reason::of(number, field(3) as i32, field(4) as i32, field(5) as i32) {
-        Some(reason) => {
-            Err(Refusal { reason, span: (number < 10).then(|| field(1)..field(2)), record: (field(6) != NO_RECORD).then(|| field(6)) })
-        }
-        None => Ok(field(0) as usize),
+fn field(report: &Report, at: usize) -> u32 {
+    u32::from_le_bytes([report[at], report[at + 1], report[at + 2], report[at + 3]])
+}
+
+/// The length, or the refusal with what is found in its input.
+#[inline]
+fn answered(number: u8, report: &Report, found: impl Fn(Option<u32>) -> Option<Found>) -> Result<usize, Refusal> {
+    if number == FSQ_DONE {
+        return Ok(field(report, FSQ_REPORT_LENGTH_AT) as usize);
+    }
+    let refusal = refused(number, report);
+    Err(Refusal { found: found(refusal.record), ..refusal })
+}
+
+#[cold]
+fn refused(number: u8, report: &Report) -> Refusal {
+    let field = |at: usize| field(report, at);
+    let signed = |at: usize| field(at) as i32;
+    Refusal {
+        reason: Reason::of(number, signed(FSQ_REPORT_VALUE_AT), signed(FSQ_REPORT_LOW_AT), signed(FSQ_REPORT_HIGH_AT)),
+        span: (number <= FSQ_SLICE_TOO_SHORT).then(|| field(FSQ_REPORT_SPAN_START_AT)..field(FSQ_REPORT_SPAN_END_AT)),
+        record: Some(field(FSQ_REPORT_RECORD_AT)).filter(|&record| record != FSQ_NO_RECORD),
+        found: None,
     }
 }

@@ -1,17 +1,23 @@
 //! Listing.
 
+use crate::bindings::{FSQ_ENTRY_LENGTH, FSQ_LIST_LENGTH, FSQ_MOST_ENTRIES};
 use crate::encoding::Bytes;
 use crate::instruction::Instruction;
 use crate::library;
 use crate::refusal::Refusal;
-use std::fmt;
-use std::ops::Deref;
+use core::array;
+use core::fmt;
+use core::iter::Take;
+use core::ops::Deref;
+use core::slice;
+
+const MOST_ENTRIES: usize = FSQ_MOST_ENTRIES as usize;
 
 /// All byte strings of an instruction, 1 to 12: shorter first, equal lengths by their first differing byte. It is a slice of them, and prints one a line.
 #[derive(Clone, Copy, Debug, PartialEq, Eq, Hash)]
 pub struct List {
     count: usize,
-    strings: [Bytes; 12],
+    strings: [Bytes; MOST_ENTRIES],
 }
 
 impl Deref for List {
@@ -19,6 +25,30 @@ impl Deref for List {
 
     fn deref(&self) -> &[Bytes] {
         &self.strings[..self.count]
+    }
+}
+
+impl AsRef<[Bytes]> for List {
+    fn as_ref(&self) -> &[Bytes] {
+        self
+    }
+}
+
+impl IntoIterator for List {
+    type Item = Bytes;
+    type IntoIter = Take<array::IntoIter<Bytes, MOST_ENTRIES>>;
+
+    fn into_iter(self) -> Self::IntoIter {
+        self.strings.into_iter().take(self.count)
+    }
+}
+
+impl<'a> IntoIterator for &'a List {
+    type Item = &'a Bytes;
+    type IntoIter = slice::Iter<'a, Bytes>;
+
+    fn into_iter(self) -> Self::IntoIter {
+        self.iter()
     }
 }
 
@@ -58,11 +88,12 @@ pub fn list(instruction: &Instruction, offset: u16) -> Result<List, Refusal> {
 /// # Ok::<(), fsq::Refusal>(())
 /// ```
 pub fn list_record(record: &[u8], offset: u16) -> Result<List, Refusal> {
-    let mut out = [0; 96];
+    let mut out = [0; FSQ_LIST_LENGTH];
     let count = library::list(record, offset, &mut out)?;
-    let mut strings = [Bytes::default(); 12];
-    for (string, entry) in strings.iter_mut().zip(out.chunks_exact(8)).take(count) {
-        *string = Bytes::new(&entry[1..1 + entry[0] as usize]);
+    let mut strings = [Bytes::default(); MOST_ENTRIES];
+    for (string, entry) in strings.iter_mut().zip(out.chunks_exact(FSQ_ENTRY_LENGTH)).take(count) {
+        let (length, bytes) = (entry[0], entry[1..].try_into().expect("an entry is a length and a string"));
+        *string = Bytes::new(length, bytes);
     }
     Ok(List { count, strings })
 }

@@ -1,13 +1,25 @@
 //! The operations.
 
-use std::fmt;
+use crate::bindings::operations;
+use core::fmt;
 
-macro_rules! operations {
+macro_rules! declare {
     ($($name:ident)*) => {
         /// An operation of the 8086, by its name in the manual.
+        ///
+        /// ```
+        /// use fsq::Operation;
+        ///
+        /// // REFERENCE 2: MOV is 0 and SALC 98; JZ is JE.
+        /// assert_eq!((Operation::MOV.number(), Operation::SALC.number()), (0, 98));
+        /// assert_eq!(Operation::ALL[98].name(), "SALC");
+        /// assert_eq!("jz".parse(), Ok(Operation::JE));
+        /// assert_eq!(Operation::JE.to_string(), "JE");
+        /// ```
         #[allow(missing_docs, clippy::upper_case_acronyms)]
         #[derive(Clone, Copy, Debug, PartialEq, Eq, Hash)]
         #[repr(u8)]
+        #[non_exhaustive]
         pub enum Operation { $($name),* }
 
         impl Operation {
@@ -23,14 +35,7 @@ macro_rules! operations {
     };
 }
 
-operations! {
-    MOV PUSH POP XCHG IN OUT XLATB LEA LDS LES LAHF SAHF PUSHF POPF
-    ADD ADC INC AAA DAA SUB SBB DEC NEG CMP AAS DAS MUL IMUL AAM DIV IDIV AAD CBW CWD
-    NOT SHL SHR SAR ROL ROR RCL RCR AND TEST OR XOR
-    REP REPNE MOVSB MOVSW CMPSB CMPSW SCASB SCASW LODSB LODSW STOSB STOSW
-    CALL JMP RET JE JL JLE JB JBE JP JO JS JNE JNL JNLE JNB JNBE JNP JNO JNS LOOP LOOPZ LOOPNZ JCXZ
-    INT INT1 INT3 INTO IRET CLC CMC STC CLD STD CLI STI HLT WAIT ESC LOCK NOP SALC
-}
+operations!(declare);
 
 impl Operation {
     /// The number in a show file, 0 to 98.

@@ -1,13 +1,21 @@
 //! Reading.
 
+use crate::bindings::{
+    FSQ_BYTE, FSQ_EXTENSION_0A, FSQ_EXTENSION_DIGIT, FSQ_EXTENSION_MODRM, FSQ_EXTENSION_PLUS_REGISTER, FSQ_EXTENSION_PLUS_SEGMENT,
+    FSQ_READ_EXTENSION_AT, FSQ_READ_FAR, FSQ_READ_FAR_SEGMENT_AT, FSQ_READ_FIRST_AT, FSQ_READ_IMMEDIATE, FSQ_READ_KIND_AT,
+    FSQ_READ_LENGTH_AT, FSQ_READ_MEMORY, FSQ_READ_NEAR, FSQ_READ_NUMBER_AT, FSQ_READ_ONE, FSQ_READ_OPCODE_AT, FSQ_READ_OPERATION_AT,
+    FSQ_READ_REGISTER, FSQ_READ_SECOND_AT, FSQ_READ_SEGMENT_AT, FSQ_READ_SEGMENT_REGISTER, FSQ_READ_VALUE_AT, FSQ_READ_WIDTH_AT, FSQ_WORD,
+};
+use crate::instruction::Instruction;
 use crate::library;
-use crate::operand::{Base, Register, Segment, Size};
+use crate::operand::{Base, Jump, Operand, Register, Segment, Size};
 use crate::operation::Operation;
 use crate::refusal::Refusal;
-use std::fmt;
+use core::fmt;
 
 /// What follows the opcode of a form, as the manual writes it.
 #[derive(Clone, Copy, Debug, PartialEq, Eq, Hash)]
+#[non_exhaustive]
 pub enum Extension {
     /// nothing
     None,
@@ -25,6 +33,7 @@ pub enum Extension {
 
 /// An operand of a read instruction.
 #[derive(Clone, Copy, Debug, PartialEq, Eq, Hash)]
+#[non_exhaustive]
 pub enum Part {
     /// a register
     Register(Register),
@@ -54,9 +63,23 @@ pub enum Part {
     One,
 }
 
-/// One instruction, read. It prints as a designer writes it: `ADD word [BX],5`.
+/// One instruction, read. It prints as a designer writes it: `ADD word [BX],5`. The text is not part of what is proved.
+///
+/// An [`Instruction`] is made of it, which encodes at the same offset to bytes that read as the same instruction:
+///
+/// ```
+/// use fsq::{encode, read, Instruction};
+///
+/// // Document 01: the bytes of LOOP 256 at 261 are E2 F9.
+/// let instruction = Instruction::from(read(&[0xE2, 0xF9], 261)?);
+/// assert_eq!(encode(&instruction, 261)?, [0xE2, 0xF9]);
+/// # Ok::<(), fsq::Refusal>(())
+/// ```
 #[derive(Clone, Copy, Debug, PartialEq, Eq, Hash)]
+#[non_exhaustive]
 pub struct Reading {
+    /// where its bytes stand
+    pub offset: u16,
     /// the number of its bytes
     pub length: usize,
     /// the operation
@@ -89,29 +112,31 @@ pub struct Reading {
 /// ```
 pub fn read(bytes: &[u8], offset: u16) -> Result<Reading, Refusal> {
     let out = library::read(bytes, offset)?;
-    let operation = Operation::ALL[out[1] as usize];
-    let width = match out[2] {
-        1 => Some(Size::Byte),
-        2 => Some(Size::Word),
+    let operation = Operation::ALL[out[FSQ_READ_OPERATION_AT] as usize];
+    let width = match out[FSQ_READ_WIDTH_AT] {
+        FSQ_BYTE => Some(Size::Byte),
+        FSQ_WORD => Some(Size::Word),
         _ => None,
     };
-    let extension = match out[4] {
-        1 => Extension::PlusRegister,
-        2 => Extension::PlusSegment,
-        3 => Extension::ModRm,
-        4 => Extension::Second0A,
-        n @ 8.. => Extension::Digit(n - 8),
+    let extension = match out[FSQ_READ_EXTENSION_AT] {
+        FSQ_EXTENSION_PLUS_REGISTER => Extension::PlusRegister,
+        FSQ_EXTENSION_PLUS_SEGMENT => Extension::PlusSegment,
+        FSQ_EXTENSION_MODRM => Extension::ModRm,
+        FSQ_EXTENSION_0A => Extension::Second0A,
+        n @ FSQ_EXTENSION_DIGIT.. => Extension::Digit(n - FSQ_EXTENSION_DIGIT),
         _ => Extension::None,
     };
-    let operands = [part(&out[8..16], operation, width, 0), part(&out[16..24], operation, width, 1)];
-    Ok(Reading { length: out[0] as usize, operation, width, opcode: out[3], extension, operands })
+    let operands = [part(&out[FSQ_READ_FIRST_AT..], operation, width, 0), part(&out[FSQ_READ_SECOND_AT..], operation, width, 1)];
+    let (length, opcode) = (out[FSQ_READ_LENGTH_AT] as usize, out[FSQ_READ_OPCODE_AT]);
+    Ok(Reading { offset, length, operation, width, opcode, extension, operands })
 }
 
 fn part(field: &[u8], operation: Operation, width: Option<Size>, place: usize) -> Option<Part> {
-    let number = field[1] as usize;
-    let value = u16::from_le_bytes([field[4], field[5]]);
-    match field[0] {
-        1 => {
+    let number = field[FSQ_READ_NUMBER_AT] as usize;
+    let u16_at = |at: usize| u16::from_le_bytes([field[at], field[at + 1]]);
+    let value = u16_at(FSQ_READ_VALUE_AT);
+    match field[FSQ_READ_KIND_AT] {
+        FSQ_READ_REGISTER => {
             // The width is the data's; a shift's count is CL and a port is in DX all the same.
             let word = match (operation, place) {
                 (
@@ -123,12 +148,15 @@ fn part(field: &[u8], operation: Operation, width: Option<Size>, place: usize) -
             };
             Some(Part::Register(Register::ALL[number + if word { 8 } else { 0 }]))
         }
-        2 => Some(Part::Segment(Segment::ALL[number])),
-        3 => Some(Part::Memory { base: Base::ALL.get(number).copied(), displacement: value, segment: Segment::ALL[field[2] as usize] }),
-        4 => Some(Part::Immediate(value)),
-        5 => Some(Part::Near(value)),
-        6 => Some(Part::Far { segment: u16::from_le_bytes([field[6], field[7]]), offset: value }),
-        7 => Some(Part::One),
+        FSQ_READ_SEGMENT_REGISTER => Some(Part::Segment(Segment::ALL[number])),
+        FSQ_READ_MEMORY => {
+            let segment = Segment::ALL[field[FSQ_READ_SEGMENT_AT] as usize];
+            Some(Part::Memory { base: Base::ALL.get(number).copied(), displacement: value, segment })
+        }
+        FSQ_READ_IMMEDIATE => Some(Part::Immediate(value)),
+        FSQ_READ_NEAR => Some(Part::Near(value)),
+        FSQ_READ_FAR => Some(Part::Far { segment: u16_at(FSQ_READ_FAR_SEGMENT_AT), offset: value }),
+        FSQ_READ_ONE => Some(Part::One),
         _ => None,
     }
 }
@@ -139,22 +167,13 @@ impl fmt::Display for Part {
             Part::Register(register) => write!(f, "{register:?}"),
             Part::Segment(segment) => write!(f, "{segment:?}"),
             Part::Memory { base, displacement, segment } => {
-                let default = match base {
-                    Some(Base::BP_SI | Base::BP_DI | Base::BP) => Segment::SS,
-                    _ => Segment::DS,
-                };
-                if *segment != default {
+                if *segment != default_segment(*base) {
                     write!(f, "{segment:?}:")?;
                 }
-                match base {
-                    None => write!(f, "[{displacement}]"),
-                    Some(base) => {
-                        let registers = format!("{base:?}").replace('_', "+");
-                        match *displacement as i16 {
-                            0 => write!(f, "[{registers}]"),
-                            signed => write!(f, "[{registers}{signed:+}]"),
-                        }
-                    }
+                match (base, *displacement as i16) {
+                    (None, _) => write!(f, "[{displacement}]"),
+                    (Some(base), 0) => write!(f, "[{}]", base.text()),
+                    (Some(base), signed) => write!(f, "[{}{signed:+}]", base.text()),
                 }
             }
             Part::Immediate(value) | Part::Near(value) => write!(f, "{value}"),
@@ -164,15 +183,84 @@ impl fmt::Display for Part {
     }
 }
 
+fn default_segment(base: Option<Base>) -> Segment {
+    base.map_or(Segment::DS, Base::segment)
+}
+
+impl Reading {
+    /// Whether the text says the width: a register beside memory does already.
+    fn says_width(&self) -> bool {
+        let said = self.operands.iter().flatten().any(|part| matches!(part, Part::Register(_) | Part::Segment(_)));
+        let count = matches!(self.operands[1], Some(Part::Register(_))) && matches!(self.extension, Extension::Digit(_));
+        !said || count
+    }
+
+    /// The operand of a record.
+    fn operand(&self, part: Part) -> Operand {
+        match part {
+            Part::Register(register) => register.into(),
+            Part::Segment(segment) => segment.into(),
+            Part::Memory { base, displacement, segment } => {
+                let memory = match base {
+                    None => Operand::address(displacement),
+                    Some(base) => Operand::memory(base, (displacement as i16).into()),
+                };
+                let memory = if segment == default_segment(base) { memory } else { memory.in_segment(segment) };
+                match self.width {
+                    // Its width is the byte's in AL, and the record's memory states Word.
+                    _ if self.operation == Operation::XLATB => memory.word(),
+                    _ if !self.says_width() => memory,
+                    Some(Size::Byte) => memory.byte(),
+                    Some(Size::Word) => memory.word(),
+                    None => memory.jump(Jump::Far),
+                }
+            }
+            Part::Immediate(value) => value.into(),
+            Part::Near(target) => self.target(target),
+            Part::Far { segment, offset } => Operand::far(segment, offset),
+            Part::One => 1.into(),
+        }
+    }
+
+    /// The target of a near or short branch. A record's distance is not wrapped where it has one byte, so a target beyond an end of the segment
+    /// is below 0 or above 65,535 in it. JMP takes no such target, and gets there without the kind Short.
+    fn target(&self, target: u16) -> Operand {
+        let end = i32::from(self.offset) + self.length as i32;
+        let near = i32::from(target);
+        let reached = [near, near - 65536, near + 65536].into_iter().find(|&target| (-128..=127).contains(&(target - end)));
+        match (self.opcode, reached) {
+            (0xEB, Some(reached)) if reached == near => Operand::from(near).jump(Jump::Short),
+            (0x70..=0x7F | 0xE0..=0xE3, Some(reached)) => reached.into(),
+            _ => near.into(),
+        }
+    }
+}
+
+/// The same instruction as a record has it. Its immediates are 0 to 65,535, as they were read, and its displacements the shortest; EB is the kind
+/// Short. Its bytes are those of [`encode`](crate::encode), which may be others than those that were read.
+impl From<&Reading> for Instruction {
+    fn from(reading: &Reading) -> Instruction {
+        match reading.operands {
+            [Some(first), Some(second)] => Instruction::two(reading.operation, reading.operand(first), reading.operand(second)),
+            [Some(one), None] | [None, Some(one)] => Instruction::one(reading.operation, reading.operand(one)),
+            [None, None] => Instruction::none(reading.operation),
+        }
+    }
+}
+
+/// As of a reference.
+impl From<Reading> for Instruction {
+    fn from(reading: Reading) -> Instruction {
+        Instruction::from(&reading)
+    }
+}
+
 impl fmt::Display for Reading {
     fn fmt(&self, f: &mut fmt::Formatter<'_>) -> fmt::Result {
         write!(f, "{}", self.operation)?;
-        // A register beside memory says the size already.
-        let said = self.operands.iter().flatten().any(|part| matches!(part, Part::Register(_) | Part::Segment(_)));
-        let count = matches!(self.operands[1], Some(Part::Register(_))) && matches!(self.extension, Extension::Digit(_));
         for (n, part) in self.operands.iter().flatten().enumerate() {
             f.write_str(if n == 0 { " " } else { "," })?;
-            if matches!(part, Part::Memory { .. }) && (!said || count) && self.operation != Operation::XLATB {
+            if matches!(part, Part::Memory { .. }) && self.says_width() && self.operation != Operation::XLATB {
                 f.write_str(match self.width {
                     Some(Size::Byte) => "byte ",
                     Some(Size::Word) => "word ",

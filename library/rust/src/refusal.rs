@@ -1,7 +1,9 @@
 //! Refusals.
 
+use crate::bindings::*;
 use crate::operand::Span;
-use std::fmt;
+use crate::operation::Operation;
+use core::fmt;
 
 /// Why something is refused, with the values that belong to the reason.
 #[derive(Clone, Copy, Debug, PartialEq, Eq, Hash)]
@@ -51,8 +53,110 @@ pub enum Reason {
     Other(u8),
 }
 
+/// What the input has where it is refused with 13 to 15. The library answers the number alone: this crate looks into the refused input.
+#[derive(Clone, Copy, Debug, PartialEq, Eq, Hash)]
+#[non_exhaustive]
+pub enum Found {
+    /// 13: the file's version
+    Version(u16),
+    /// 14: the length of a record that has not 56 bytes
+    RecordLength(usize),
+    /// 14: the length of a file without a whole header, which has 9 bytes
+    HeaderLength(usize),
+    /// 14: a count above 1,000
+    Count(u16),
+    /// 14: a length that is not the one of the file's count
+    FileLength {
+        /// the length of the file
+        length: usize,
+        /// the length that its count asks for, 9 + 56 for each record
+        expected: usize,
+    },
+    /// 15: the first code of the record that does not exist
+    Code {
+        /// the byte of the record
+        at: usize,
+        /// the code
+        value: u8,
+        /// the highest that exists; the lowest is 0
+        high: u8,
+    },
+}
+
+impl Found {
+    /// What a record has that is refused with this number.
+    pub(crate) fn in_record(number: u8, record: &[u8]) -> Option<Found> {
+        match number {
+            FSQ_WRONG_LENGTH => Some(Found::RecordLength(record.len())),
+            FSQ_UNKNOWN_CODE => Found::unknown_code(record),
+            _ => None,
+        }
+    }
+
+    /// What a file has that is refused with this number, at this record.
+    pub(crate) fn in_file(number: u8, record: Option<u32>, file: &[u8]) -> Option<Found> {
+        let field = |at: usize| Some(u16::from_le_bytes([*file.get(at)?, *file.get(at + 1)?]));
+        match (number, record) {
+            (FSQ_WRONG_VERSION, _) => field(FSQ_HEADER_VERSION_AT).map(Found::Version),
+            (FSQ_WRONG_LENGTH, _) if file.len() < FSQ_HEADER_LENGTH => Some(Found::HeaderLength(file.len())),
+            (FSQ_WRONG_LENGTH, _) => field(FSQ_HEADER_COUNT_AT).map(|count| {
+                if count > FSQ_MOST_RECORDS {
+                    Found::Count(count)
+                } else {
+                    Found::FileLength { length: file.len(), expected: FSQ_HEADER_LENGTH + FSQ_RECORD_LENGTH * usize::from(count) }
+                }
+            }),
+            (FSQ_UNKNOWN_CODE, Some(record)) => {
+                let at = FSQ_HEADER_LENGTH + FSQ_RECORD_LENGTH * record as usize;
+                Found::unknown_code(file.get(at..at + FSQ_RECORD_LENGTH)?)
+            }
+            _ => None,
+        }
+    }
+
+    /// The first code of a record of 56 bytes that does not exist.
+    pub(crate) fn unknown_code(record: &[u8]) -> Option<Found> {
+        const OPERATION: (usize, u8) = (FSQ_OPERATION_AT, Operation::ALL.len() as u8 - 1);
+        const fn highest(operand: usize) -> [(usize, u8); 4] {
+            [
+                (operand + FSQ_KIND_AT, FSQ_MEM),
+                (operand + FSQ_SIZE_AT, FSQ_WORD),
+                (operand + FSQ_DISPLACEMENT_SIZE_AT, FSQ_WORD),
+                (operand + FSQ_JUMP_AT, FSQ_SHORT),
+            ]
+        }
+        let code = |(at, high): (usize, u8)| record.get(at).map(|&value| Found::Code { at, value, high });
+        let codes = [OPERATION].into_iter().chain(highest(FSQ_FIRST_AT)).chain(highest(FSQ_SECOND_AT));
+        codes.filter_map(code).find(|found| matches!(found, Found::Code { value, high, .. } if value > high))
+    }
+}
+
+impl fmt::Display for Found {
+    fn fmt(&self, f: &mut fmt::Formatter<'_>) -> fmt::Result {
+        match *self {
+            Found::Version(version) => write!(f, "the version of the show file is {version}, not {FSQ_FILE_VERSION}"),
+            Found::RecordLength(length) => write!(f, "the record has {length} bytes, not {FSQ_RECORD_LENGTH}"),
+            Found::HeaderLength(length) => write!(f, "the show file has {length} bytes, and its header alone {FSQ_HEADER_LENGTH}"),
+            Found::Count(count) => write!(f, "the count of the show file is {count}, outside 0..{FSQ_MOST_RECORDS}"),
+            Found::FileLength { length, expected } => write!(f, "the show file has {length} bytes, and by its count {expected}"),
+            Found::Code { at, value, high } => {
+                let operand = if at < FSQ_SECOND_AT { FSQ_FIRST_AT } else { FSQ_SECOND_AT };
+                let name = match at.checked_sub(operand) {
+                    None => "operation",
+                    Some(FSQ_KIND_AT) => "kind",
+                    Some(FSQ_SIZE_AT) => "size",
+                    Some(FSQ_DISPLACEMENT_SIZE_AT) => "displacement size",
+                    _ => "jump kind",
+                };
+                write!(f, "{name} {value}, at byte {at} of the record, is outside 0..{high}")
+            }
+        }
+    }
+}
+
 /// A refusal whole: why, where in the source, and in a file of which record.
 #[derive(Clone, Debug, PartialEq, Eq, Hash)]
+#[non_exhaustive]
 pub struct Refusal {
     /// Why, with the values that belong to it.
     pub reason: Reason,
@@ -60,6 +164,8 @@ pub struct Refusal {
     pub span: Option<Span>,
     /// The record of the file, from 0.
     pub record: Option<u32>,
+    /// What the input has, for the reasons 13 to 15.
+    pub found: Option<Found>,
 }
 
 impl Refusal {
@@ -70,49 +176,48 @@ impl Refusal {
 }
 
 impl Reason {
-    /// The number, 1 to 15.
+    /// The number: 1 to 15, or another of a later library.
     pub fn number(&self) -> u8 {
         match self {
-            Reason::InvalidOperands => 1,
-            Reason::OperandSizeNotSpecified => 2,
-            Reason::OperandSizesDoNotMatch => 3,
-            Reason::InvalidOperandSize => 4,
-            Reason::ImmediateOutOfRange { .. } => 5,
-            Reason::RelativeJumpOutOfRange { .. } => 6,
-            Reason::NotSupported => 7,
-            Reason::NotWellFormed => 8,
-            Reason::SliceTooShort => 9,
-            Reason::NotAnInstruction => 10,
-            Reason::NotComplete => 11,
-            Reason::NoMark => 12,
-            Reason::WrongVersion => 13,
-            Reason::WrongLength => 14,
-            Reason::UnknownCode => 15,
+            Reason::InvalidOperands => FSQ_INVALID_OPERANDS,
+            Reason::OperandSizeNotSpecified => FSQ_OPERAND_SIZE_NOT_SPECIFIED,
+            Reason::OperandSizesDoNotMatch => FSQ_OPERAND_SIZES_DO_NOT_MATCH,
+            Reason::InvalidOperandSize => FSQ_INVALID_OPERAND_SIZE,
+            Reason::ImmediateOutOfRange { .. } => FSQ_IMMEDIATE_OUT_OF_RANGE,
+            Reason::RelativeJumpOutOfRange { .. } => FSQ_RELATIVE_JUMP_OUT_OF_RANGE,
+            Reason::NotSupported => FSQ_NOT_SUPPORTED,
+            Reason::NotWellFormed => FSQ_NOT_WELL_FORMED,
+            Reason::SliceTooShort => FSQ_SLICE_TOO_SHORT,
+            Reason::NotAnInstruction => FSQ_NOT_AN_INSTRUCTION,
+            Reason::NotComplete => FSQ_NOT_COMPLETE,
+            Reason::NoMark => FSQ_NO_MARK,
+            Reason::WrongVersion => FSQ_WRONG_VERSION,
+            Reason::WrongLength => FSQ_WRONG_LENGTH,
+            Reason::UnknownCode => FSQ_UNKNOWN_CODE,
             Reason::Other(number) => *number,
         }
     }
 
-    /// The reason of a number; nothing for 0.
-    pub(crate) fn of(number: u8, value: i32, low: i32, high: i32) -> Option<Reason> {
-        Some(match number {
-            1 => Reason::InvalidOperands,
-            2 => Reason::OperandSizeNotSpecified,
-            3 => Reason::OperandSizesDoNotMatch,
-            4 => Reason::InvalidOperandSize,
-            5 => Reason::ImmediateOutOfRange { value, low, high },
-            6 => Reason::RelativeJumpOutOfRange { distance: value },
-            7 => Reason::NotSupported,
-            8 => Reason::NotWellFormed,
-            9 => Reason::SliceTooShort,
-            10 => Reason::NotAnInstruction,
-            11 => Reason::NotComplete,
-            12 => Reason::NoMark,
-            13 => Reason::WrongVersion,
-            14 => Reason::WrongLength,
-            15 => Reason::UnknownCode,
-            0 => return None,
+    /// The reason of a number that is not 0.
+    pub(crate) fn of(number: u8, value: i32, low: i32, high: i32) -> Reason {
+        match number {
+            FSQ_INVALID_OPERANDS => Reason::InvalidOperands,
+            FSQ_OPERAND_SIZE_NOT_SPECIFIED => Reason::OperandSizeNotSpecified,
+            FSQ_OPERAND_SIZES_DO_NOT_MATCH => Reason::OperandSizesDoNotMatch,
+            FSQ_INVALID_OPERAND_SIZE => Reason::InvalidOperandSize,
+            FSQ_IMMEDIATE_OUT_OF_RANGE => Reason::ImmediateOutOfRange { value, low, high },
+            FSQ_RELATIVE_JUMP_OUT_OF_RANGE => Reason::RelativeJumpOutOfRange { distance: value },
+            FSQ_NOT_SUPPORTED => Reason::NotSupported,
+            FSQ_NOT_WELL_FORMED => Reason::NotWellFormed,
+            FSQ_SLICE_TOO_SHORT => Reason::SliceTooShort,
+            FSQ_NOT_AN_INSTRUCTION => Reason::NotAnInstruction,
+            FSQ_NOT_COMPLETE => Reason::NotComplete,
+            FSQ_NO_MARK => Reason::NoMark,
+            FSQ_WRONG_VERSION => Reason::WrongVersion,
+            FSQ_WRONG_LENGTH => Reason::WrongLength,
+            FSQ_UNKNOWN_CODE => Reason::UnknownCode,
             other => Reason::Other(other),
-        })
+        }
     }
 }
 
@@ -131,22 +236,26 @@ impl fmt::Display for Reason {
             Reason::NotAnInstruction => f.write_str("no instruction begins with these bytes"),
             Reason::NotComplete => f.write_str("the instruction is not complete"),
             Reason::NoMark => f.write_str("this is no show file: it does not begin with FSQ"),
-            Reason::WrongVersion => f.write_str("the version of the show file is not 1"),
+            Reason::WrongVersion => write!(f, "the version of the show file is not {FSQ_FILE_VERSION}"),
             Reason::WrongLength => f.write_str("the length is not the one that the show file or record has to have"),
             Reason::UnknownCode => f.write_str("an operation, kind, size or jump kind does not exist"),
-            Reason::Other(number) => write!(f, "refused with {number}"),
+            Reason::Other(number) => write!(f, "the reason {number}, which this crate does not know"),
         }
     }
 }
 
-/// For a designer: `record 3: value 300 is outside -128..255`.
+/// Its number, the record, what is wrong, the value and its limits: `refusal 5 of record 3: value 300 is outside -128..255`.
 impl fmt::Display for Refusal {
     fn fmt(&self, f: &mut fmt::Formatter<'_>) -> fmt::Result {
+        write!(f, "refusal {}", self.number())?;
         if let Some(record) = self.record {
-            write!(f, "record {record}: ")?;
+            write!(f, " of record {record}")?;
         }
-        self.reason.fmt(f)
+        match &self.found {
+            Some(found) => write!(f, ": {found}"),
+            None => write!(f, ": {}", self.reason),
+        }
     }
 }
 
-impl std::error::Error for Refusal {}
+impl core::error::Error for Refusal {}

@@ -3,7 +3,7 @@
 
 use fsq::{
     encode, encode_record, list, load, read, show_file, Base, Instruction, Jump, Operand, Operation::*, Part, Reason, Register::*, Segment,
-    Size,
+    Show, Size,
 };
 
 fn hex(text: &str) -> Vec<u8> {
@@ -120,11 +120,11 @@ fn refusals() {
     ];
     for (instruction, number, text) in rows {
         let refusal = encode(&instruction, 0).unwrap_err();
-        assert_eq!((refusal.number(), refusal.to_string().as_str()), (number, text), "{instruction:?}");
+        assert_eq!((refusal.number(), refusal.to_string()), (number, format!("refusal {number}: {text}")), "{instruction:?}");
         assert_eq!(list(&instruction, 0).unwrap_err(), refusal);
         // Behind a NOP at 65,535 it stands at 0 again.
         let of_record = load(&show_file(65535, &[Instruction::none(NOP), instruction])).unwrap_err();
-        assert_eq!(of_record.to_string(), format!("record 1: {text}"));
+        assert_eq!(of_record.to_string(), format!("refusal {number} of record 1: {text}"));
         assert_eq!((of_record.reason, of_record.record), (refusal.reason, Some(1)));
     }
 }
@@ -219,15 +219,7 @@ fn spans_come_back() {
     let refused = |instruction: &Instruction| load(&show_file(0, &[Instruction::none(NOP), instruction.clone()])).unwrap_err();
     assert_eq!((refused(&add).record, refused(&add).span), (Some(1), Some(7..12)));
     assert_eq!((refused(&pop).record, refused(&pop).span), (Some(1), Some(0..6)));
-}
-
-/// The header's operations are this crate's, in one order.
-#[test]
-fn the_header_has_the_same_operations() {
-    let header = include_str!("../../include/fsq.h");
-    let (_, rest) = header.split_once("enum fsq_operation {").unwrap();
-    let (body, _) = rest.split_once('}').unwrap();
-    let names: Vec<&str> = body.replace("= 0", "").leak().split(',').map(|name| name.trim().trim_start_matches("FSQ_")).collect();
-    let ours: Vec<&str> = fsq::Operation::ALL.iter().map(|operation| operation.name()).collect();
-    assert_eq!(names, ours);
+    // REFERENCE 8: 9 has the span of the named record's instruction.
+    let refusal = Show::load_into(&show_file(0, &[Instruction::none(NOP), Instruction::none(AAM).at(2..5)]), &mut [0; 2]).unwrap_err();
+    assert_eq!((refusal.number(), refusal.record, refusal.span), (9, Some(1), Some(2..5)));
 }

@@ -1,6 +1,7 @@
 //! Without the Rust: our answers beside the digests of the expected ones. Each record is also asked with a shorter slice, where a run that does not fit must give 9.
 
 use super::answers::{self, Answer, Run};
+use super::bindings::FSQ_SLICE_TOO_SHORT;
 use super::digests::{Block, Digests, Stage, STORED};
 use super::ours;
 use super::records::{hex, Record, NAMES};
@@ -27,7 +28,7 @@ impl Alone {
                 self.digests.add(Block { stage, operation: record.operation }, &packed, offset, &answer);
                 let slice = (self.records % ours::LONGEST as u64) as usize;
                 let shorter = match answer {
-                    Answer::Bytes(Run { len, .. }) if len > slice => answers::refused(9, record.span),
+                    Answer::Bytes(Run { len, .. }) if len > slice => answers::refused(FSQ_SLICE_TOO_SHORT, record.span),
                     other => other,
                 };
                 let given = ours::ask(&packed, offset, slice, self.records);

@@ -1,5 +1,6 @@
 //! What either encoder answers: a byte run or a numbered refusal, in a shape that compares with `==`.
 
+use super::bindings::{FSQ_IMMEDIATE_OUT_OF_RANGE, FSQ_RELATIVE_JUMP_OUT_OF_RANGE, FSQ_STRING_LENGTH};
 use std::fmt;
 
 pub type Span = (u32, u32);
@@ -7,7 +8,7 @@ pub type Span = (u32, u32);
 /// 1 to 7 bytes. The bytes behind `len` are zero, so that equal runs are equal values.
 #[derive(Clone, Copy, PartialEq, Eq, Debug)]
 pub struct Run {
-    pub bytes: [u8; 7],
+    pub bytes: [u8; FSQ_STRING_LENGTH],
     pub len: usize,
 }
 
@@ -28,7 +29,7 @@ pub enum Answer {
 }
 
 pub fn run(bytes: &[u8]) -> Run {
-    let mut run = Run { bytes: [0; 7], len: bytes.len() };
+    let mut run = Run { bytes: [0; FSQ_STRING_LENGTH], len: bytes.len() };
     run.bytes[..bytes.len()].copy_from_slice(bytes);
     run
 }
@@ -42,11 +43,11 @@ pub fn refused(number: u8, span: Span) -> Answer {
 }
 
 pub fn out_of_range(span: Span, value: i32, low: i32, high: i32) -> Answer {
-    Answer::Refused(Refusal { number: 5, span, value, low, high })
+    Answer::Refused(Refusal { number: FSQ_IMMEDIATE_OUT_OF_RANGE, span, value, low, high })
 }
 
 pub fn too_far(span: Span, distance: i32) -> Answer {
-    Answer::Refused(Refusal { number: 6, span, value: distance, low: 0, high: 0 })
+    Answer::Refused(Refusal { number: FSQ_RELATIVE_JUMP_OUT_OF_RANGE, span, value: distance, low: 0, high: 0 })
 }
 
 impl fmt::Display for Answer {
@@ -60,8 +61,8 @@ impl fmt::Display for Answer {
             Answer::Refused(r) => {
                 write!(f, "! {} {} {}", r.number, r.span.0, r.span.1)?;
                 match r.number {
-                    5 => write!(f, " {} {} {}", r.value, r.low, r.high),
-                    6 => write!(f, " {}", r.value),
+                    FSQ_IMMEDIATE_OUT_OF_RANGE => write!(f, " {} {} {}", r.value, r.low, r.high),
+                    FSQ_RELATIVE_JUMP_OUT_OF_RANGE => write!(f, " {}", r.value),
                     _ => Ok(()),
                 }
             }

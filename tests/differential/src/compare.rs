@@ -1,6 +1,7 @@
 //! One record, both encoders, and the account of it.
 
 use super::answers::{self, Answer, Run};
+use super::bindings::*;
 use super::digests::{Block, Digests, Stage, STORED};
 use super::differences::{Kind, EMITS, ENTRIES, LEFT_OPEN, PANICS, WIDER};
 use super::forms::{self, Tally};
@@ -74,10 +75,10 @@ impl Comparison {
         let mut theirs = None;
         let expected = if !record.codes_known() {
             self.alone += 1;
-            answers::refused(15, (0, 0))
+            answers::refused(FSQ_UNKNOWN_CODE, (0, 0))
         } else if let Some(span) = record.ill_formed() {
             self.alone += 1;
-            answers::refused(8, span)
+            answers::refused(FSQ_NOT_WELL_FORMED, span)
         } else {
             self.records += 1;
             let asked = oracle::ask(&record, offset);
@@ -187,8 +188,8 @@ impl Comparison {
     ) {
         let expected = match expected {
             Answer::Bytes(Run { len, .. }) if len > slice => {
-                self.refused[9] += 1;
-                answers::refused(9, record.span)
+                self.refused[FSQ_SLICE_TOO_SHORT as usize] += 1;
+                answers::refused(FSQ_SLICE_TOO_SHORT, record.span)
             }
             other => other,
         };
@@ -288,7 +289,8 @@ impl Comparison {
 fn told(answer: &Answer) -> String {
     match answer {
         Answer::Refused(r)
-            if r.number != 5 && (r.low, r.high) != (0, 0) || !matches!(r.number, 5 | 6) && r.value != 0 =>
+            if r.number != FSQ_IMMEDIATE_OUT_OF_RANGE && (r.low, r.high) != (0, 0)
+                || !matches!(r.number, FSQ_IMMEDIATE_OUT_OF_RANGE | FSQ_RELATIVE_JUMP_OUT_OF_RANGE) && r.value != 0 =>
         {
             format!("({answer}, and value {} limits {} {})", r.value, r.low, r.high)
         }

@@ -2,6 +2,7 @@
 //! A difference that no entry explains is a failure, and so is an entry that is never met.
 
 use super::answers::{self, Answer};
+use super::bindings::{FSQ_INVALID_OPERANDS, FSQ_INVALID_OPERAND_SIZE, FSQ_NOT_SUPPORTED};
 use super::groups::{ARITHMETIC, CONDITIONAL, LOOPS};
 use super::left_open;
 use super::oracle::Oracle;
@@ -82,7 +83,7 @@ pub static ENTRIES: &[Entry] = &[
         operations: &[op::POP],
         applies: |r, _| r.operands[0].kind == SEG && r.operands[0].rm == 1,
         theirs: |_, o| o.answer == answers::bytes(&[0x0F]),
-        ours: |r, _, _| answers::refused(1, r.span),
+        ours: |r, _, _| answers::refused(FSQ_INVALID_OPERANDS, r.span),
     },
     Entry {
         id: "call-register-kind",
@@ -90,7 +91,7 @@ pub static ENTRIES: &[Entry] = &[
         operations: &[op::CALL],
         applies: |r, _| r.operands[0].kind == REG && matches!(r.operands[0].jump, FAR | SHORT),
         theirs: |r, o| o.answer == with_modrm(0xFF, 2, &r.operands[0], &[]),
-        ours: |r, _, _| answers::refused(1, r.span),
+        ours: |r, _, _| answers::refused(FSQ_INVALID_OPERANDS, r.span),
     },
     Entry {
         id: "call-memory-short",
@@ -98,7 +99,7 @@ pub static ENTRIES: &[Entry] = &[
         operations: &[op::CALL],
         applies: |r, _| r.operands[0].kind == MEM && r.operands[0].jump == SHORT,
         theirs: |r, o| o.answer == with_modrm(0xFF, 2, &r.operands[0], &[]),
-        ours: |r, _, _| answers::refused(1, r.span),
+        ours: |r, _, _| answers::refused(FSQ_INVALID_OPERANDS, r.span),
     },
     Entry {
         id: "byte-target",
@@ -117,7 +118,7 @@ pub static ENTRIES: &[Entry] = &[
             let n = if r.operation == op::CALL { 2 } else { 4 };
             o.answer == with_modrm(0xFF, n, &r.operands[0], &[])
         },
-        ours: |r, _, _| answers::refused(1, r.span),
+        ours: |r, _, _| answers::refused(FSQ_INVALID_OPERANDS, r.span),
     },
     Entry {
         id: "mov-memory-range",
@@ -179,7 +180,7 @@ pub static ENTRIES: &[Entry] = &[
         operations: &[op::INT1, op::ESC],
         applies: |_, _| true,
         theirs: |_, o| o.panicked,
-        ours: |r, _, _| answers::refused(7, r.span),
+        ours: |r, _, _| answers::refused(FSQ_NOT_SUPPORTED, r.span),
     },
     Entry {
         id: LEFT_OPEN,
@@ -195,23 +196,23 @@ pub static ENTRIES: &[Entry] = &[
         operations: &[op::CALL],
         applies: |r, _| r.operands[0].kind == MEM && r.operands[0].jump == FAR && r.operands[0].size == BYTE,
         theirs: |_, o| o.panicked,
-        ours: |r, _, _| answers::refused(1, r.span),
+        ours: |r, _, _| answers::refused(FSQ_INVALID_OPERANDS, r.span),
     },
     Entry {
         id: "push-byte-register",
         kind: Kind::Agrees,
         operations: &[op::PUSH],
         applies: |r, _| r.operands[0].kind == REG && r.operands[0].size == BYTE,
-        theirs: |r, o| o.answer == answers::refused(1, r.operands[0].span),
-        ours: |r, _, _| answers::refused(1, r.operands[0].span),
+        theirs: |r, o| o.answer == answers::refused(FSQ_INVALID_OPERANDS, r.operands[0].span),
+        ours: |r, _, _| answers::refused(FSQ_INVALID_OPERANDS, r.operands[0].span),
     },
     Entry {
         id: "push-unstated-register",
         kind: Kind::Agrees,
         operations: &[op::PUSH],
         applies: |r, _| r.operands[0].kind == REG && r.operands[0].size == UNSTATED,
-        theirs: |r, o| o.answer == answers::refused(1, r.operands[0].span),
-        ours: |r, _, _| answers::refused(1, r.operands[0].span),
+        theirs: |r, o| o.answer == answers::refused(FSQ_INVALID_OPERANDS, r.operands[0].span),
+        ours: |r, _, _| answers::refused(FSQ_INVALID_OPERANDS, r.operands[0].span),
     },
     Entry {
         id: "in-out-unstated-accumulator",
@@ -222,32 +223,32 @@ pub static ENTRIES: &[Entry] = &[
             let has_form = port.kind == IMM || is_dx(port) && port.size == WORD;
             is_accumulator(accumulator) && accumulator.size == UNSTATED && has_form
         },
-        theirs: |r, o| o.answer == answers::refused(1, r.span),
-        ours: |r, _, _| answers::refused(1, r.span),
+        theirs: |r, o| o.answer == answers::refused(FSQ_INVALID_OPERANDS, r.span),
+        ours: |r, _, _| answers::refused(FSQ_INVALID_OPERANDS, r.span),
     },
     Entry {
         id: "in-out-byte-dx",
         kind: Kind::Agrees,
         operations: &[op::IN, op::OUT],
         applies: |r, _| dx_of_size(r, BYTE),
-        theirs: |r, o| o.answer == answers::refused(1, r.span),
-        ours: |r, _, _| answers::refused(1, r.span),
+        theirs: |r, o| o.answer == answers::refused(FSQ_INVALID_OPERANDS, r.span),
+        ours: |r, _, _| answers::refused(FSQ_INVALID_OPERANDS, r.span),
     },
     Entry {
         id: "in-out-unstated-dx",
         kind: Kind::Agrees,
         operations: &[op::IN, op::OUT],
         applies: |r, _| dx_of_size(r, UNSTATED),
-        theirs: |r, o| o.answer == answers::refused(1, r.span),
-        ours: |r, _, _| answers::refused(1, r.span),
+        theirs: |r, o| o.answer == answers::refused(FSQ_INVALID_OPERANDS, r.span),
+        ours: |r, _, _| answers::refused(FSQ_INVALID_OPERANDS, r.span),
     },
     Entry {
         id: "pop-immediate",
         kind: Kind::Agrees,
         operations: &[op::POP],
         applies: |r, _| r.operands[0].kind == IMM,
-        theirs: |r, o| o.answer == answers::refused(4, r.operands[0].span),
-        ours: |r, _, _| answers::refused(4, r.operands[0].span),
+        theirs: |r, o| o.answer == answers::refused(FSQ_INVALID_OPERAND_SIZE, r.operands[0].span),
+        ours: |r, _, _| answers::refused(FSQ_INVALID_OPERAND_SIZE, r.operands[0].span),
     },
     Entry {
         id: SIGN_EXTENDED_NEGATIVE,

@@ -3,7 +3,7 @@
 
 use super::generate::{record, Visit};
 use super::random::Random;
-use super::records::{op, Operand, Record};
+use super::records::{self, op, Operand, Record};
 use super::shapes;
 
 pub fn records(visit: &mut Visit) {
@@ -56,7 +56,7 @@ fn one_field(base: &Record, at: usize, visit: &mut Visit) {
 }
 
 fn unknown_codes(few: &[Operand], visit: &mut Visit) {
-    for operation in 99..=255 {
+    for operation in records::OPERATIONS..=255 {
         visit(record(operation, operation % 4, few[operation as usize % few.len()], few[1]), 0);
     }
     for code in 3..=255 {

@@ -1,11 +1,17 @@
 //! Where 000 ends in `todo!` and document 02, No. 1, gives an answer: what ours must answer there. The forms are the Intel SDM's, TEST's ranges No. 4's.
 
 use super::answers::{self, Answer};
+use super::bindings::{FSQ_IMMEDIATE_OUT_OF_RANGE, FSQ_INVALID_OPERANDS, FSQ_RELATIVE_JUMP_OUT_OF_RANGE};
 use super::differences::with_modrm;
 use super::records::{op, Operand, Record, BYTE, FAR, IMM, MEM, REG, SHORT, WORD};
 
 /// The refusals that a run must meet: operation and number. That the forms are met is asked with all others.
-pub const REFUSALS: [(u8, u8); 4] = [(op::TEST, 5), (op::RET, 1), (op::RET, 5), (op::JMP, 6)];
+pub const REFUSALS: [(u8, u8); 4] = [
+    (op::TEST, FSQ_IMMEDIATE_OUT_OF_RANGE),
+    (op::RET, FSQ_INVALID_OPERANDS),
+    (op::RET, FSQ_IMMEDIATE_OUT_OF_RANGE),
+    (op::JMP, FSQ_RELATIVE_JUMP_OUT_OF_RANGE),
+];
 
 /// Nothing where 000 does not end in `todo!`, and nothing where another entry has the record: INT1, ESC, CALL of kind Far through a Byte.
 pub fn answer(r: &Record, offset: u16) -> Option<Answer> {
@@ -18,7 +24,7 @@ pub fn answer(r: &Record, offset: u16) -> Option<Answer> {
         op::RET if r.count != 0 && first.kind == IMM => {
             Some(with_immediate(first, WORD, 0, |iw| answers::bytes(&[0xC2, iw[0], iw[1]])))
         }
-        op::RET if r.count != 0 => Some(answers::refused(1, r.span)),
+        op::RET if r.count != 0 => Some(answers::refused(FSQ_INVALID_OPERANDS, r.span)),
         op::CALL if memory && first.jump == FAR && first.size != BYTE => Some(with_modrm(0xFF, 3, first, &[])),
         // 000 asks the target's own range before it looks at the kind
         op::JMP if first.kind == IMM && first.jump == SHORT && (0..=65535).contains(&first.imm) => {

@@ -1,6 +1,7 @@
 //! The Rust `encode` of docs/src, asked as it stands.
 
 use super::answers::{self, Answer};
+use super::bindings::*;
 use super::records::{self, Operand, Record};
 use crate::encoder::{
     encode, ByteEmitter, EncodeError, InstructionData, JumpKind, OperandData, OperandKind, OperandSize,
@@ -63,7 +64,7 @@ pub fn ask(record: &Record, offset: u16) -> Oracle {
         Ok(Err(error)) => refusal(error),
         Err(payload) => {
             assert!(is_todo(&*payload), "000 panics, and not by todo!: {}", records::hex(&record.pack()));
-            answers::refused(7, record.span)
+            answers::refused(FSQ_NOT_SUPPORTED, record.span)
         }
     };
     Oracle { answer, emitted: emitted.len, panicked }
@@ -81,10 +82,10 @@ fn is_todo(payload: &dyn std::any::Any) -> bool {
 fn refusal(error: EncodeError) -> Answer {
     let span = (error.span().start as u32, error.span().end as u32);
     match error {
-        EncodeError::InvalidOperands(_) => answers::refused(1, span),
-        EncodeError::OperandSizeNotSpecified(_) => answers::refused(2, span),
-        EncodeError::OperandSizesDoNotMatch(_) => answers::refused(3, span),
-        EncodeError::InvalidOperandSize(_) => answers::refused(4, span),
+        EncodeError::InvalidOperands(_) => answers::refused(FSQ_INVALID_OPERANDS, span),
+        EncodeError::OperandSizeNotSpecified(_) => answers::refused(FSQ_OPERAND_SIZE_NOT_SPECIFIED, span),
+        EncodeError::OperandSizesDoNotMatch(_) => answers::refused(FSQ_OPERAND_SIZES_DO_NOT_MATCH, span),
+        EncodeError::InvalidOperandSize(_) => answers::refused(FSQ_INVALID_OPERAND_SIZE, span),
         EncodeError::ImmediateOutOfRange(_, value, low, high) => answers::out_of_range(span, value, low, high),
         EncodeError::RelativeJumpOutOfRange(_, _, _, distance) => answers::too_far(span, distance),
     }

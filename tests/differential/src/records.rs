@@ -1,21 +1,15 @@
 //! The instruction record as it stands in a show file (document 01): fields as codes, so that ill-formed and unknown ones can be said too.
 
 use super::answers::Span;
+use super::bindings::*;
 
-/// 002's operations in 002's order, handed to the macro named. oracle.rs checks the order against 002 itself.
-macro_rules! operations {
-    ($use:ident) => {
-        $use! {
-            MOV PUSH POP XCHG IN OUT XLATB LEA LDS LES LAHF SAHF PUSHF POPF
-            ADD ADC INC AAA DAA SUB SBB DEC NEG CMP AAS DAS MUL IMUL AAM DIV IDIV AAD CBW CWD
-            NOT SHL SHR SAR ROL ROR RCL RCR AND TEST OR XOR
-            REP REPNE MOVSB MOVSW CMPSB CMPSW SCASB SCASW LODSB LODSW STOSB STOSW
-            CALL JMP RET JE JL JLE JB JBE JP JO JS JNE JNL JNLE JNB JNBE JNP JNO JNS LOOP LOOPZ LOOPNZ JCXZ
-            INT INT1 INT3 INTO IRET CLC CMC STC CLD STD CLI STI HLT WAIT ESC LOCK NOP SALC
-        }
-    };
-}
-pub(super) use operations;
+/// The operations in their order, handed to the macro named. oracle.rs checks it against 002 itself.
+pub(super) use super::bindings::operations;
+// Kinds, sizes and jump kinds.
+pub use super::bindings::{
+    FSQ_BYTE as BYTE, FSQ_FAR as FAR, FSQ_IMM as IMM, FSQ_MEM as MEM, FSQ_NEAR as NEAR, FSQ_NO_KIND as NONE, FSQ_REG as REG, FSQ_SEG as SEG,
+    FSQ_SHORT as SHORT, FSQ_UNSPECIFIED as UNSTATED, FSQ_WORD as WORD,
+};
 
 macro_rules! numbers {
     ($($name:ident)*) => {
@@ -30,22 +24,7 @@ macro_rules! numbers {
 }
 operations!(numbers);
 
-pub const OPERATIONS: u8 = 99;
-
-// Kinds, sizes and jump kinds: codes from 0 in document 01's order.
-pub const IMM: u8 = 0;
-pub const REG: u8 = 1;
-pub const SEG: u8 = 2;
-pub const MEM: u8 = 3;
-
-pub const UNSTATED: u8 = 0;
-pub const BYTE: u8 = 1;
-pub const WORD: u8 = 2;
-
-pub const NONE: u8 = 0;
-pub const FAR: u8 = 1;
-pub const NEAR: u8 = 2;
-pub const SHORT: u8 = 3;
+pub const OPERATIONS: u8 = NAMES.len() as u8;
 
 pub const PREFIXES: [u8; 5] = [0, 0x26, 0x2E, 0x36, 0x3E];
 
@@ -71,7 +50,7 @@ pub struct Record {
     pub operands: [Operand; 2],
 }
 
-pub type Packed = [u8; 56];
+pub type Packed = [u8; FSQ_RECORD_LENGTH];
 
 impl Operand {
     pub fn is_rm(&self) -> bool {
@@ -109,12 +88,17 @@ impl Operand {
     }
 
     fn pack(&self, into: &mut [u8]) {
-        let codes = [self.kind, self.size, self.prefix, self.displacement_size, self.jump, self.mode, self.rm];
-        into[..7].copy_from_slice(&codes);
-        into[7..11].copy_from_slice(&self.imm.to_le_bytes());
-        into[11..15].copy_from_slice(&self.displacement.to_le_bytes());
-        into[15..19].copy_from_slice(&self.span.0.to_le_bytes());
-        into[19..23].copy_from_slice(&self.span.1.to_le_bytes());
+        into[FSQ_KIND_AT] = self.kind;
+        into[FSQ_SIZE_AT] = self.size;
+        into[FSQ_PREFIX_AT] = self.prefix;
+        into[FSQ_DISPLACEMENT_SIZE_AT] = self.displacement_size;
+        into[FSQ_JUMP_AT] = self.jump;
+        into[FSQ_MODE_AT] = self.mode;
+        into[FSQ_RM_AT] = self.rm;
+        put(into, FSQ_IMMEDIATE_AT, self.imm as u32);
+        put(into, FSQ_DISPLACEMENT_AT, self.displacement as u32);
+        put(into, FSQ_OPERAND_SPAN_START_AT, self.span.0);
+        put(into, FSQ_OPERAND_SPAN_END_AT, self.span.1);
     }
 }
 
@@ -142,13 +126,13 @@ impl Record {
     }
 
     pub fn pack(&self) -> Packed {
-        let mut packed = [0; 56];
-        packed[0] = self.operation;
-        packed[1] = self.count;
-        packed[2..6].copy_from_slice(&self.span.0.to_le_bytes());
-        packed[6..10].copy_from_slice(&self.span.1.to_le_bytes());
-        self.operands[0].pack(&mut packed[10..33]);
-        self.operands[1].pack(&mut packed[33..56]);
+        let mut packed = [0; FSQ_RECORD_LENGTH];
+        packed[FSQ_OPERATION_AT] = self.operation;
+        packed[FSQ_COUNT_AT] = self.count;
+        put(&mut packed, FSQ_SPAN_START_AT, self.span.0);
+        put(&mut packed, FSQ_SPAN_END_AT, self.span.1);
+        self.operands[0].pack(&mut packed[FSQ_FIRST_AT..]);
+        self.operands[1].pack(&mut packed[FSQ_SECOND_AT..]);
         packed
     }
 
@@ -165,6 +149,10 @@ impl Record {
         self.operands[1].span = (next(), next());
         self
     }
+}
+
+fn put(into: &mut [u8], at: usize, value: u32) {
+    into[at..at + 4].copy_from_slice(&value.to_le_bytes());
 }
 
 pub fn hex(bytes: &[u8]) -> String {

@@ -2,6 +2,7 @@
 //! Written from document 01 with document 02, Nos. 1, 2 and 4, in the order of the questions, and not from 000.
 
 use super::answers::{self, Answer, Span};
+use super::bindings::*;
 use super::groups::{ARITHMETIC, CONDITIONAL, LOOPS};
 use super::records::*;
 
@@ -23,12 +24,12 @@ pub unsafe extern "C" fn fsq_encode(
     let number = match answer(&record, offset) {
         Answer::Bytes(run) if run.len <= out.len() => {
             out[..run.len].copy_from_slice(&run.bytes[..run.len]);
-            fields[0] = run.len as u32;
-            0
+            fields[FSQ_REPORT_LENGTH_AT / 4] = run.len as u32;
+            FSQ_DONE
         }
         Answer::Bytes(_) => {
             fields = [0, record.span.0, record.span.1, 0, 0, 0];
-            9
+            FSQ_SLICE_TOO_SHORT
         }
         Answer::Refused(r) => {
             fields = [0, r.span.0, r.span.1, r.value as u32, r.low as u32, r.high as u32];
@@ -36,7 +37,7 @@ pub unsafe extern "C" fn fsq_encode(
         }
     };
     // No record is named.
-    for (i, field) in fields.iter().chain([&u32::MAX]).enumerate() {
+    for (i, field) in fields.iter().chain([&FSQ_NO_RECORD]).enumerate() {
         report[4 * i..4 * i + 4].copy_from_slice(&field.to_le_bytes());
     }
     number
@@ -45,22 +46,22 @@ pub unsafe extern "C" fn fsq_encode(
 fn unpack(packed: &[u8]) -> Record {
     let number = |at: usize| u32::from_le_bytes(packed[at..at + 4].try_into().unwrap());
     let operand = |at: usize| Operand {
-        kind: packed[at],
-        size: packed[at + 1],
-        prefix: packed[at + 2],
-        displacement_size: packed[at + 3],
-        jump: packed[at + 4],
-        mode: packed[at + 5],
-        rm: packed[at + 6],
-        imm: number(at + 7) as i32,
-        displacement: number(at + 11) as i32,
-        span: (number(at + 15), number(at + 19)),
+        kind: packed[at + FSQ_KIND_AT],
+        size: packed[at + FSQ_SIZE_AT],
+        prefix: packed[at + FSQ_PREFIX_AT],
+        displacement_size: packed[at + FSQ_DISPLACEMENT_SIZE_AT],
+        jump: packed[at + FSQ_JUMP_AT],
+        mode: packed[at + FSQ_MODE_AT],
+        rm: packed[at + FSQ_RM_AT],
+        imm: number(at + FSQ_IMMEDIATE_AT) as i32,
+        displacement: number(at + FSQ_DISPLACEMENT_AT) as i32,
+        span: (number(at + FSQ_OPERAND_SPAN_START_AT), number(at + FSQ_OPERAND_SPAN_END_AT)),
     };
     Record {
-        operation: packed[0],
-        count: packed[1],
-        span: (number(2), number(6)),
-        operands: [operand(10), operand(33)],
+        operation: packed[FSQ_OPERATION_AT],
+        count: packed[FSQ_COUNT_AT],
+        span: (number(FSQ_SPAN_START_AT), number(FSQ_SPAN_END_AT)),
+        operands: [operand(FSQ_FIRST_AT), operand(FSQ_SECOND_AT)],
     }
 }
 
@@ -81,35 +82,35 @@ const UNARY: [u8; 6] = [op::NOT, op::NEG, op::MUL, op::IMUL, op::DIV, op::IDIV];
 
 fn answer(r: &Record, offset: u16) -> Answer {
     if !r.codes_known() {
-        return answers::refused(15, (0, 0));
+        return answers::refused(FSQ_UNKNOWN_CODE, (0, 0));
     }
     // 1
     if let Some(span) = r.ill_formed() {
-        return answers::refused(8, span);
+        return answers::refused(FSQ_NOT_WELL_FORMED, span);
     }
     let o = r.operation;
     let [a, b] = &r.operands;
-    let none = answers::refused(1, r.span);
-    let none_operand = answers::refused(1, a.span);
+    let none = answers::refused(FSQ_INVALID_OPERANDS, r.span);
+    let none_operand = answers::refused(FSQ_INVALID_OPERANDS, a.span);
     // 2
     if matches!(o, op::INT1 | op::ESC) {
-        return answers::refused(7, r.span);
+        return answers::refused(FSQ_NOT_SUPPORTED, r.span);
     }
     // 3
     let in_pairs = ARITHMETIC.contains(&o) || matches!(o, op::MOV | op::TEST | op::XCHG);
     let (unary, shift) = (position(&UNARY, o), position(&SHIFTS, o));
     if in_pairs && a.size == UNSTATED && b.size == UNSTATED || unary.is_some() && a.size == UNSTATED {
-        return answers::refused(2, r.span);
+        return answers::refused(FSQ_OPERAND_SIZE_NOT_SPECIFIED, r.span);
     }
     if shift.is_some() && a.size == UNSTATED {
-        return answers::refused(2, a.span);
+        return answers::refused(FSQ_OPERAND_SIZE_NOT_SPECIFIED, a.span);
     }
     if matches!(o, op::INC | op::DEC) && a.size == UNSTATED || matches!(o, op::POP | op::XLATB) && a.size != WORD {
-        return answers::refused(4, a.span);
+        return answers::refused(FSQ_INVALID_OPERAND_SIZE, a.span);
     }
     // 4
     if in_pairs && a.size != UNSTATED && b.size != UNSTATED && a.size != b.size {
-        return answers::refused(3, r.span);
+        return answers::refused(FSQ_OPERAND_SIZES_DO_NOT_MATCH, r.span);
     }
     // 5 to 7
     let size = if a.size == UNSTATED { b.size } else { a.size };
@@ -173,7 +174,7 @@ fn answer(r: &Record, offset: u16) -> Answer {
             SEG if a.rm != 1 => answers::bytes(&[0x07 + 8 * a.rm]),
             SEG => none,
             MEM => modrm(0x8F, 0, a, &[]),
-            _ => answers::refused(4, a.span),
+            _ => answers::refused(FSQ_INVALID_OPERAND_SIZE, a.span),
         },
         op::LEA | op::LES | op::LDS if a.kind == REG && a.size == WORD && b.kind == MEM => {
             let opcode = [0x8D, 0xC5, 0xC4][(o - op::LEA) as usize];

@@ -32,10 +32,10 @@ uint8_t fsq_encode(const uint8_t *rec, size_t n, uint16_t offset, uint8_t *out, 
 }
 
 uint8_t fsq_read(const uint8_t *bytes, size_t n, uint16_t offset, uint8_t *out, size_t m) {
-    uint8_t number = right_fsq_read(bytes, n, offset, out, m);
+    uint8_t number = right_fsq_read(bytes, n, offset, out, m), *kind = out + FSQ_READ_FIRST_AT;
     // BP in DS
-    if (fault("bp-in-ds") && number == 0 && out[8] == 3 && out[9] == 6 && out[10] == 2)
-        out[10] = 3;
+    if (fault("bp-in-ds") && number == 0 && kind[0] == FSQ_READ_MEMORY && kind[FSQ_READ_NUMBER_AT] == FSQ_BASE_BP && kind[FSQ_READ_SEGMENT_AT] == FSQ_SS)
+        kind[FSQ_READ_SEGMENT_AT] = FSQ_DS;
     // 82 as 80
     if (fault("82-reads") && n > 0 && bytes[0] == 0x82) {
         uint8_t copy[16];
@@ -46,16 +46,16 @@ uint8_t fsq_read(const uint8_t *bytes, size_t n, uint16_t offset, uint8_t *out, 
     }
     // SALC, which no manual has
     if (fault("no-salc") && n > 0 && bytes[0] == 0xD6)
-        return 10;
+        return FSQ_NOT_AN_INSTRUCTION;
     // F6 as before No. 1: TEST's /0 unused
     if (fault("no-f6-0") && n > 1 && bytes[0] == 0xF6 && (bytes[1] & 0x38) == 0)
-        return 10;
+        return FSQ_NOT_AN_INSTRUCTION;
     // the far CALL with the near one's width
     if (fault("far-as-near") && number == 0 && n > 1 && bytes[0] == 0xFF && (bytes[1] & 0x38) == 0x18)
-        out[2] = 2;
+        out[FSQ_READ_WIDTH_AT] = FSQ_WORD;
     // a byte not asked for
     if (fault("asks-more") && n == 1 && bytes[0] == 0x40)
-        return 11;
+        return FSQ_NOT_COMPLETE;
     return number;
 }
 
@@ -65,17 +65,17 @@ uint8_t fsq_list(const uint8_t *rec, size_t n, uint16_t offset, uint8_t *out, si
     if (fault("one-missing") && number == 0 && report[0] > 1 && out[0] == 2 && out[1] == 0x01)
         report[0]--;
     // TEST of memory and a register without its longest string, which the other order has
-    if (fault("one-order") && number == 0 && rec[0] == 43 && rec[10] == 3 && rec[33] == 1 && report[0] > 1)
+    if (fault("one-order") && number == 0 && rec[0] == FSQ_TEST && rec[FSQ_FIRST_AT] == FSQ_MEM && rec[FSQ_SECOND_AT] == FSQ_REG && report[0] > 1)
         report[0]--;
     // the shortest string
     if (fault("shortest-missing") && number == 0 && report[0] > 1) {
-        memmove(out, out + 8, 8 * (size_t) (report[0] - 1));
+        memmove(out, out + FSQ_ENTRY_LENGTH, FSQ_ENTRY_LENGTH * (size_t) (report[0] - 1));
         report[0]--;
     }
     // a string beside them: STC in CLC's list
     if (fault("one-beside") && number == 0 && out[1] == 0xF8) {
-        static const uint8_t entry[8] = { 1, 0xF9 };
-        memcpy(out + 8, entry, 8);
+        static const uint8_t entry[FSQ_ENTRY_LENGTH] = { 1, 0xF9 };
+        memcpy(out + FSQ_ENTRY_LENGTH, entry, FSQ_ENTRY_LENGTH);
         report[0] = 2;
     }
     return number;

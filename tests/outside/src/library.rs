@@ -1,6 +1,6 @@
 //! The reader and the lister behind their C functions.
 
-use crate::bindings::{fsq_list, fsq_read};
+use crate::bindings::*;
 use crate::meaning::{Meaning, Operand};
 use crate::records::Packed;
 
@@ -15,46 +15,48 @@ pub enum Read {
 }
 
 pub fn read(bytes: &[u8], offset: u16) -> Read {
-    let mut out = [0; 24];
+    let mut out = [0; FSQ_READING_LENGTH];
     match unsafe { fsq_read(bytes.as_ptr(), bytes.len(), offset, out.as_mut_ptr(), out.len()) } {
-        0 => {
-            let meaning = Meaning { operation: out[1], width: out[2], operands: [operand(&out[8..16]), operand(&out[16..24])] };
-            Read::Whole(out[0] as usize, meaning)
+        FSQ_DONE => {
+            let operands = [operand(&out[FSQ_READ_FIRST_AT..]), operand(&out[FSQ_READ_SECOND_AT..])];
+            let meaning = Meaning { operation: out[FSQ_READ_OPERATION_AT], width: out[FSQ_READ_WIDTH_AT], operands };
+            Read::Whole(out[FSQ_READ_LENGTH_AT] as usize, meaning)
         }
-        10 => Read::Nothing,
-        11 => Read::More,
+        FSQ_NOT_AN_INSTRUCTION => Read::Nothing,
+        FSQ_NOT_COMPLETE => Read::More,
         other => panic!("the reader answers {other}"),
     }
 }
 
 fn operand(field: &[u8]) -> Operand {
-    let (n, segment) = (field[1], field[2]);
-    let value = u16::from_le_bytes([field[4], field[5]]);
-    let far = u16::from_le_bytes([field[6], field[7]]);
-    match field[0] {
-        0 => Operand::None,
-        1 => Operand::Register(n),
-        2 => Operand::Segment(n),
-        3 => Operand::Memory(n, value, segment),
-        4 => Operand::Immediate(value),
-        5 => Operand::Near(value),
-        6 => Operand::Far(value, far),
-        7 => Operand::One,
+    let (n, segment) = (field[FSQ_READ_NUMBER_AT], field[FSQ_READ_SEGMENT_AT]);
+    let u16_at = |at: usize| u16::from_le_bytes([field[at], field[at + 1]]);
+    let value = u16_at(FSQ_READ_VALUE_AT);
+    match field[FSQ_READ_KIND_AT] {
+        FSQ_READ_NONE => Operand::None,
+        FSQ_READ_REGISTER => Operand::Register(n),
+        FSQ_READ_SEGMENT_REGISTER => Operand::Segment(n),
+        FSQ_READ_MEMORY => Operand::Memory(n, value, segment),
+        FSQ_READ_IMMEDIATE => Operand::Immediate(value),
+        FSQ_READ_NEAR => Operand::Near(value),
+        FSQ_READ_FAR => Operand::Far(value, u16_at(FSQ_READ_FAR_SEGMENT_AT)),
+        FSQ_READ_ONE => Operand::One,
         other => panic!("the reader answers an operand of kind {other}"),
     }
 }
 
 /// The strings of a record's list, or the refusal.
 pub fn list(record: &Packed, offset: u16) -> Result<Vec<Vec<u8>>, u8> {
-    let mut out = [0; 96];
-    let mut report = [0; 28];
+    let mut out = [0; FSQ_LIST_LENGTH];
+    let mut report = [0; FSQ_REPORT_LENGTH];
     let (n, m) = (out.len(), report.len());
     let number = unsafe { fsq_list(record.as_ptr(), record.len(), offset, out.as_mut_ptr(), n, report.as_mut_ptr(), m) };
-    assert_eq!(report[24..], [0xFF; 4], "the lister was asked one record and names one of a file");
+    let field = |at: usize| u32::from_le_bytes(report[at..at + 4].try_into().unwrap());
+    assert_eq!(field(FSQ_REPORT_RECORD_AT), FSQ_NO_RECORD, "the lister was asked one record and names one of a file");
     match number {
-        0 => {
-            let count = u32::from_le_bytes(report[..4].try_into().unwrap()) as usize;
-            Ok(out.chunks(8).take(count).map(|entry| entry[1..1 + entry[0] as usize].to_vec()).collect())
+        FSQ_DONE => {
+            let count = field(FSQ_REPORT_LENGTH_AT) as usize;
+            Ok(out.chunks(FSQ_ENTRY_LENGTH).take(count).map(|entry| entry[1..1 + entry[0] as usize].to_vec()).collect())
         }
         _ => Err(number),
     }

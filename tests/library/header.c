@@ -1,0 +1,494 @@
+/* Every inline function of library/include/fsq.h. What is expected is docs/REFERENCE.md's, or the header's own word. */
+#include "fsq.h"
+#include <stdio.h>
+#include <string.h>
+
+static int checks, failures;
+
+static void check(int good, const char *what, int line) {
+    checks++;
+    if (!good && failures++ < 20)
+        printf("header: line %d: %s\n", line, what);
+}
+
+#define CHECK(good) check((good) ? 1 : 0, #good, __LINE__)
+#define ENCODES(record, offset, bytes) encodes((record), (offset), (bytes), __LINE__)
+#define REFUSED(record, offset, number) refused((record), (offset), (number), __LINE__)
+
+/* What the numbers of an enum may be besides its names: in C++ those of as many bits, in C all, of which 256 has the byte of 0. */
+#ifdef __cplusplus
+enum { REGISTERS = 15, SEGMENTS = 3, BASES = 15, SIZES = 3, JUMPS = 3, OPERATIONS = 127, LEAST = 0 };
+#else
+enum { REGISTERS = 20, SEGMENTS = 20, BASES = 20, SIZES = 260, JUMPS = 260, OPERATIONS = 260, LEAST = -2 };
+#endif
+
+/* Bytes in hexadecimal, with blanks between them. */
+static const char *text_of(const uint8_t *bytes, size_t length) {
+    static char text[3 * 64];
+    size_t i;
+    text[0] = 0;
+    for (i = 0; i < length && i < 64; i++)
+        sprintf(text + (i == 0 ? 0 : 3 * i - 1), i == 0 ? "%02X" : " %02X", bytes[i]);
+    return text;
+}
+
+static int is(const uint8_t *bytes, size_t length, const char *text) {
+    return strcmp(text_of(bytes, length), text) == 0;
+}
+
+/* The inline function and the library's write these bytes, and no others. */
+static void encodes(fsq_record_t record, uint16_t offset, const char *bytes, int line) {
+    uint8_t out[16], report[FSQ_REPORT_LENGTH], again[FSQ_STRING_LENGTH];
+    fsq_report_t told;
+    int length, i, stays = 1;
+    memset(out, 0xA5, sizeof out);
+    length = fsq_encode_at(&record, offset, out, sizeof out, &told);
+    for (i = length < 0 ? 0 : length; i < 16; i++)
+        stays &= out[i] == 0xA5;
+    check(length > 0 && is(out, (size_t) length, bytes) && stays, bytes, line);
+    check(length > 0 && fsq_report_length(&told) == (uint32_t) length && fsq_report_record(&told) == FSQ_NO_RECORD, bytes, line);
+    check(fsq_encode(record.bytes, sizeof record.bytes, offset, again, sizeof again, report, sizeof report) == FSQ_DONE
+          && memcmp(report, told.bytes, sizeof report) == 0 && memcmp(again, out, fsq_get_u32(report)) == 0, bytes, line);
+}
+
+static fsq_report_t refused(fsq_record_t record, uint16_t offset, int number, int line) {
+    uint8_t out[FSQ_STRING_LENGTH];
+    fsq_report_t report, other;
+    fsq_list_t list;
+    int answer;
+    memset(out, 0xA5, sizeof out);
+    memset(&list, 0xA5, sizeof list);
+    answer = fsq_encode_at(&record, offset, out, sizeof out, &report);
+    check(answer == -number && is(out, sizeof out, "A5 A5 A5 A5 A5 A5 A5"), fsq_refusal_name(answer), line);
+    check(fsq_encode_at(&record, offset, out, sizeof out, NULL) == -number, "without a report", line);
+    check(fsq_list_at(&record, offset, &list, &other) == -number && memcmp(&report, &other, sizeof report) == 0 && list.bytes[95] == 0xA5
+          && list.count == 0, "of a list", line);
+    return report;
+}
+
+/* REFERENCE 3. */
+static int well_formed(const fsq_operand_t *operand) {
+    int kind = operand->bytes[0], size = operand->bytes[1], prefix = operand->bytes[2], displacement_size = operand->bytes[3];
+    int jump = operand->bytes[4], mode = operand->bytes[5], rm = operand->bytes[6];
+    int32_t displacement = fsq_get_i32(operand->bytes + 11);
+    int asked = mode == 0 ? (rm == 6 ? 2 : 0) : mode;
+    if (size > 2 || displacement_size > 2 || jump > 3)
+        return 0;
+    switch (kind) {
+    case 0:
+        return prefix == 0 && mode == 0 && rm == 0 && displacement_size == 0;
+    case 1:
+        return prefix == 0 && mode == 3 && rm <= 7 && displacement_size == 0 && displacement == 0;
+    case 2:
+        return prefix == 0 && mode == 3 && rm <= 3 && displacement_size == 0 && displacement == 0 && size == 2;
+    case 3:
+        return (prefix == 0 || prefix == 0x26 || prefix == 0x2E || prefix == 0x36 || prefix == 0x3E) && mode <= 2 && rm <= 7
+            && displacement_size == asked
+            && (asked == 0 ? displacement == 0 : asked == 1 ? displacement >= -128 && displacement <= 127
+                : displacement >= -32768 && displacement <= 65535);
+    default:
+        return 0;
+    }
+}
+
+/* Well formed by REFERENCE 3, and by the library: AAM, which uses no operand, takes it as its first and as its second. */
+static int taken(fsq_operand_t operand) {
+    fsq_record_t aam = fsq_two(FSQ_AAM, operand, operand);
+    uint8_t out[FSQ_STRING_LENGTH];
+    return well_formed(&operand) && fsq_encode_at(&aam, 0, out, sizeof out, NULL) == 2;
+}
+
+static void numbers(void) {
+    uint8_t at[5] = {0x34, 0x12, 0x00, 0x80, 0xA5};
+    CHECK(fsq_get_u16(at) == 4660);
+    CHECK(fsq_get_u32(at) == 2147488308u);
+    CHECK(fsq_get_i32(at) == -2147478988);
+    fsq_put_u32(at, (uint32_t) -2);
+    CHECK(is(at, 5, "FE FF FF FF A5") && fsq_get_i32(at) == -2);
+    fsq_put_u32(at, 2147483647u);
+    CHECK(fsq_get_i32(at) == 2147483647);
+    fsq_put_u32(at, 2147483648u);
+    CHECK(fsq_get_i32(at) == -2147483647 - 1);
+    fsq_put_u32(at, 0x12345678u);
+    CHECK(is(at, 5, "78 56 34 12 A5") && fsq_get_i32(at) == 0x12345678);
+    fsq_put_u16(at, 0xABCD);
+    CHECK(is(at, 3, "CD AB 34"));
+    CHECK(FSQ_VERSION_MAJOR == 2 && FSQ_VERSION_MINOR >= 0);
+    CHECK(sizeof(fsq_operand_t) == 23 && sizeof(fsq_record_t) == 56 && sizeof(fsq_report_t) == 28);
+    CHECK(sizeof(fsq_reading_t) == 24 && sizeof(fsq_list_t) == 97);
+}
+
+static void operands(void) {
+    static const int32_t displacements[] = {
+        -2147483647 - 1, -65537, -65536, -32769, -32768, -129, -128, -1, 0, 1, 127, 128, 255, 32767, 32768, 65535, 65536, 65537, 2147483647
+    };
+    size_t i;
+    int n, size;
+    fsq_operand_t operand;
+
+    /* The bytes of REFERENCE 8: kind, size, prefix, displacement size, jump kind, mode, r/m, immediate, displacement, span. */
+    operand = fsq_reg(FSQ_AL);
+    CHECK(is(operand.bytes, 23, "01 01 00 00 00 03 00 00 00 00 00 00 00 00 00 00 00 00 00 00 00 00 00"));
+    operand = fsq_reg(FSQ_DI);
+    CHECK(is(operand.bytes, 23, "01 02 00 00 00 03 07 00 00 00 00 00 00 00 00 00 00 00 00 00 00 00 00"));
+    operand = fsq_seg(FSQ_DS);
+    CHECK(is(operand.bytes, 23, "02 02 00 00 00 03 03 00 00 00 00 00 00 00 00 00 00 00 00 00 00 00 00"));
+    operand = fsq_imm(-2);
+    CHECK(is(operand.bytes, 23, "00 00 00 00 00 00 00 FE FF FF FF 00 00 00 00 00 00 00 00 00 00 00 00"));
+    operand = fsq_far(22136, 4660);
+    CHECK(is(operand.bytes, 23, "00 00 00 00 01 00 00 34 12 00 00 78 56 00 00 00 00 00 00 00 00 00 00"));
+    operand = fsq_mem(FSQ_UNSPECIFIED, FSQ_BASE_BX, 0);
+    CHECK(is(operand.bytes, 23, "03 00 00 00 00 00 07 00 00 00 00 00 00 00 00 00 00 00 00 00 00 00 00"));
+    operand = fsq_mem(FSQ_BYTE, FSQ_BASE_BP, 0);
+    CHECK(is(operand.bytes, 23, "03 01 00 01 00 01 06 00 00 00 00 00 00 00 00 00 00 00 00 00 00 00 00"));
+    operand = fsq_mem(FSQ_WORD, FSQ_BASE_BX_SI, -128);
+    CHECK(is(operand.bytes, 23, "03 02 00 01 00 01 00 00 00 00 00 80 FF FF FF 00 00 00 00 00 00 00 00"));
+    operand = fsq_mem(FSQ_WORD, FSQ_BASE_BX_SI, 128);
+    CHECK(is(operand.bytes, 23, "03 02 00 02 00 02 00 00 00 00 00 80 00 00 00 00 00 00 00 00 00 00 00"));
+    operand = fsq_mem(FSQ_WORD, FSQ_BASE_DI, 65535);
+    CHECK(is(operand.bytes, 23, "03 02 00 02 00 02 05 00 00 00 00 FF FF 00 00 00 00 00 00 00 00 00 00"));
+    operand = fsq_address(FSQ_UNSPECIFIED, 4660);
+    CHECK(is(operand.bytes, 23, "03 00 00 02 00 00 06 00 00 00 00 34 12 00 00 00 00 00 00 00 00 00 00"));
+    operand = fsq_with_span(fsq_with_segment(fsq_with_jump(fsq_address(FSQ_UNSPECIFIED, 0), FSQ_FAR), FSQ_SS), 7, 65536);
+    CHECK(is(operand.bytes, 23, "03 00 36 02 01 00 06 00 00 00 00 00 00 00 00 07 00 00 00 00 00 01 00"));
+
+    /* Nothing malformed, whatever is given. */
+    for (n = LEAST; n <= REGISTERS; n++) {
+        operand = fsq_reg((enum fsq_register) n);
+        CHECK(taken(operand) && operand.bytes[FSQ_RM_AT] == ((unsigned) n & 7u) && operand.bytes[FSQ_SIZE_AT] == ((n & 8) != 0 ? 2 : 1));
+        CHECK(taken(fsq_with_segment(operand, FSQ_ES)));
+    }
+    for (n = LEAST; n <= SEGMENTS; n++) {
+        operand = fsq_seg((enum fsq_segment) n);
+        CHECK(taken(operand) && operand.bytes[FSQ_RM_AT] == ((unsigned) n & 3u));
+        operand = fsq_with_segment(fsq_mem(FSQ_BYTE, FSQ_BASE_SI, 0), (enum fsq_segment) n);
+        CHECK(taken(operand) && operand.bytes[FSQ_PREFIX_AT] == 0x26 + 8 * (n & 3));
+    }
+    for (n = LEAST; n <= BASES; n++)
+        for (i = 0; i < sizeof displacements / sizeof *displacements; i++) {
+            int32_t given = displacements[i], kept = given;
+            operand = fsq_mem(FSQ_UNSPECIFIED, (enum fsq_base) n, given);
+            if (n < 0 || n > 7 || given < -32768 || given > 65535)
+                kept = (int32_t) ((uint32_t) given % 65536u);
+            CHECK(taken(operand) && fsq_get_i32(operand.bytes + FSQ_DISPLACEMENT_AT) == kept);
+            CHECK(operand.bytes[FSQ_RM_AT] == (n < 0 || n > 7 ? 6 : n));
+            CHECK((operand.bytes[FSQ_MODE_AT] == 0) == (n < 0 || n > 7 || (kept == 0 && n != 6)));
+            CHECK((operand.bytes[FSQ_MODE_AT] == 2) == (n >= 0 && n <= 7 && (kept < -128 || kept > 127)));
+        }
+    for (n = LEAST; n <= SIZES; n++) {
+        size = n < 0 || n > 2 ? 0 : n;
+        operand = fsq_with_size(fsq_imm(5), (enum fsq_size) n);
+        CHECK(taken(operand) && operand.bytes[FSQ_SIZE_AT] == size);
+        operand = fsq_with_size(fsq_reg(FSQ_CX), (enum fsq_size) n);
+        CHECK(taken(operand) && operand.bytes[FSQ_SIZE_AT] == size);
+        operand = fsq_mem((enum fsq_size) n, FSQ_BASE_BP_DI, 5);
+        CHECK(taken(operand) && operand.bytes[FSQ_SIZE_AT] == size);
+        operand = fsq_address((enum fsq_size) n, 5);
+        CHECK(taken(operand) && operand.bytes[FSQ_SIZE_AT] == size);
+        operand = fsq_with_size(fsq_seg(FSQ_ES), (enum fsq_size) n);
+        CHECK(taken(operand) && operand.bytes[FSQ_SIZE_AT] == FSQ_WORD);
+    }
+    for (n = LEAST; n <= JUMPS; n++) {
+        operand = fsq_with_jump(fsq_imm(5), (enum fsq_jump) n);
+        CHECK(taken(operand) && operand.bytes[FSQ_JUMP_AT] == (n < 0 || n > 3 ? 0 : n));
+    }
+    operand = fsq_with_segment(fsq_imm(5), FSQ_DS);
+    CHECK(operand.bytes[FSQ_PREFIX_AT] == 0 && taken(operand));
+    operand = fsq_with_segment(fsq_seg(FSQ_CS), FSQ_DS);
+    CHECK(operand.bytes[FSQ_PREFIX_AT] == 0 && taken(operand));
+}
+
+static void records(void) {
+    fsq_operand_t first = fsq_with_span(fsq_reg(FSQ_AX), 4, 6), second = fsq_with_span(fsq_imm(5), 7, 8);
+    fsq_record_t two = fsq_record_with_span(fsq_two(FSQ_ADD, first, second), 0, 8);
+    fsq_record_t one = fsq_record_with_span(fsq_one(FSQ_INC, first), 1, 6);
+    fsq_record_t none = fsq_record_with_span(fsq_none(FSQ_PUSH), 3, 7);
+    fsq_record_t empty = fsq_none(FSQ_SALC);
+    fsq_report_t report;
+    size_t i;
+    int n, zeros = 1;
+    CHECK(is(two.bytes, 10, "0E 02 00 00 00 00 08 00 00 00"));
+    CHECK(memcmp(two.bytes + 10, first.bytes, 23) == 0 && memcmp(two.bytes + 33, second.bytes, 23) == 0);
+    CHECK(is(one.bytes, 10, "10 01 01 00 00 00 06 00 00 00"));
+    CHECK(memcmp(one.bytes + 10, first.bytes, 23) == 0);
+    CHECK(is(one.bytes + 33, 23, "00 00 00 00 00 00 00 00 00 00 00 00 00 00 00 01 00 00 00 06 00 00 00"));
+    CHECK(is(none.bytes, 10, "01 00 03 00 00 00 07 00 00 00"));
+    CHECK(is(none.bytes + 10, 23, "00 00 00 00 00 00 00 00 00 00 00 00 00 00 00 03 00 00 00 07 00 00 00"));
+    CHECK(memcmp(none.bytes + 10, none.bytes + 33, 23) == 0);
+    for (i = 1; i < 56; i++)
+        zeros &= empty.bytes[i] == 0;
+    CHECK(empty.bytes[0] == 98 && zeros);
+    for (n = LEAST; n <= OPERATIONS; n++) {
+        uint8_t out[FSQ_STRING_LENGTH];
+        fsq_record_t record = fsq_none((enum fsq_operation) n);
+        int known = n >= 0 && n <= 98;
+        CHECK(record.bytes[0] == (known ? n : 255));
+        CHECK((fsq_encode_at(&record, 0, out, sizeof out, NULL) == -15) == !known);
+    }
+
+    /* REFERENCE 5: whose span a refusal has. PUSH has the first operand's, POP CS the instruction's, an immediate its own. */
+    report = REFUSED(none, 0, FSQ_INVALID_OPERANDS);
+    CHECK(fsq_report_span_start(&report) == 3 && fsq_report_span_end(&report) == 7);
+    report = REFUSED(fsq_record_with_span(fsq_one(FSQ_POP, fsq_with_span(fsq_seg(FSQ_CS), 4, 6)), 0, 6), 0, FSQ_INVALID_OPERANDS);
+    CHECK(fsq_report_span_start(&report) == 0 && fsq_report_span_end(&report) == 6);
+    report = REFUSED(fsq_record_with_span(fsq_two(FSQ_MOV, fsq_mem(FSQ_BYTE, FSQ_BASE_BX, 0), fsq_with_span(fsq_imm(300), 14, 17)), 0, 17), 0,
+                     FSQ_IMMEDIATE_OUT_OF_RANGE);
+    CHECK(fsq_report_span_start(&report) == 14 && fsq_report_span_end(&report) == 17);
+    CHECK(fsq_report_value(&report) == 300 && fsq_report_low(&report) == -128 && fsq_report_high(&report) == 255);
+    CHECK(fsq_report_length(&report) == 0 && fsq_report_record(&report) == FSQ_NO_RECORD);
+}
+
+static void bytes(void) {
+    fsq_operand_t ax = fsq_reg(FSQ_AX), al = fsq_reg(FSQ_AL), bx = fsq_reg(FSQ_BX), cl = fsq_reg(FSQ_CL);
+    fsq_operand_t at_bx = fsq_mem(FSQ_UNSPECIFIED, FSQ_BASE_BX, 0);
+    fsq_report_t report;
+    ENCODES(fsq_two(FSQ_ADD, ax, fsq_imm(-1)), 0, "83 C0 FF");
+    ENCODES(fsq_two(FSQ_ADD, ax, fsq_imm(200)), 0, "05 C8 00");
+    ENCODES(fsq_two(FSQ_ADD, bx, fsq_imm(200)), 0, "81 C3 C8 00");
+    ENCODES(fsq_two(FSQ_ADD, ax, fsq_imm(-129)), 0, "05 7F FF");
+    ENCODES(fsq_two(FSQ_ADD, ax, fsq_imm(65535)), 0, "05 FF FF");
+    ENCODES(fsq_two(FSQ_ADD, al, fsq_imm(-1)), 0, "04 FF");
+    ENCODES(fsq_two(FSQ_ADD, fsq_reg(FSQ_BL), fsq_imm(5)), 0, "80 C3 05");
+    ENCODES(fsq_two(FSQ_ADD, ax, bx), 0, "01 D8");
+    ENCODES(fsq_two(FSQ_MOV, ax, bx), 0, "89 D8");
+    ENCODES(fsq_two(FSQ_TEST, ax, bx), 0, "85 D8");
+    ENCODES(fsq_two(FSQ_TEST, bx, fsq_imm(5)), 0, "F7 C3 05 00");
+    ENCODES(fsq_two(FSQ_TEST, cl, at_bx), 0, "84 0F");
+    ENCODES(fsq_two(FSQ_XCHG, cl, al), 0, "86 C8");
+    ENCODES(fsq_two(FSQ_XCHG, fsq_reg(FSQ_CX), ax), 0, "91");
+    ENCODES(fsq_two(FSQ_MOV, al, fsq_mem(FSQ_UNSPECIFIED, FSQ_BASE_BP, 0)), 0, "8A 46 00");
+    ENCODES(fsq_two(FSQ_MOV, al, fsq_with_segment(at_bx, FSQ_DS)), 0, "3E 8A 07");
+    ENCODES(fsq_two(FSQ_MOV, ax, fsq_address(FSQ_UNSPECIFIED, 4660)), 0, "A1 34 12");
+    ENCODES(fsq_two(FSQ_MOV, fsq_reg(FSQ_CX), fsq_address(FSQ_UNSPECIFIED, 4660)), 0, "8B 0E 34 12");
+    ENCODES(fsq_two(FSQ_MOV, ax, fsq_mem(FSQ_UNSPECIFIED, FSQ_BASE_NONE, 4660)), 0, "A1 34 12");
+    ENCODES(fsq_two(FSQ_MOV, at_bx, fsq_with_size(fsq_imm(5), FSQ_WORD)), 0, "C7 07 05 00");
+    ENCODES(fsq_two(FSQ_MOV, fsq_with_size(al, FSQ_UNSPECIFIED), fsq_seg(FSQ_ES)), 0, "8C C0");
+    ENCODES(fsq_two(FSQ_LEA, ax, fsq_mem(FSQ_BYTE, FSQ_BASE_BX, 0)), 0, "8D 07");
+    ENCODES(fsq_one(FSQ_PUSH, fsq_mem(FSQ_WORD, FSQ_BASE_BX, 0)), 0, "FF 37");
+    ENCODES(fsq_one(FSQ_CALL, fsq_with_jump(at_bx, FSQ_FAR)), 0, "FF 1F");
+    ENCODES(fsq_one(FSQ_CALL, fsq_with_jump(at_bx, FSQ_NEAR)), 0, "FF 17");
+    ENCODES(fsq_one(FSQ_JMP, fsq_far(22136, 4660)), 0, "EA 34 12 78 56");
+    ENCODES(fsq_one(FSQ_JMP, fsq_imm(0)), 65533, "E9 00 00");
+    ENCODES(fsq_one(FSQ_JMP, fsq_with_jump(fsq_imm(2), FSQ_SHORT)), 0, "EB 00");
+    ENCODES(fsq_one(FSQ_JE, fsq_imm(129)), 0, "74 7F");
+    ENCODES(fsq_one(FSQ_JE, fsq_imm(130)), 256, "74 80");
+    ENCODES(fsq_one(FSQ_RET, fsq_imm(0)), 0, "C2 00 00");
+    ENCODES(fsq_none(FSQ_RET), 0, "C3");
+    ENCODES(fsq_none(FSQ_AAM), 0, "D4 0A");
+    ENCODES(fsq_none(FSQ_INT), 0, "CD 00");
+
+    report = REFUSED(fsq_one(FSQ_JE, fsq_imm(130)), 0, FSQ_RELATIVE_JUMP_OUT_OF_RANGE);
+    CHECK(fsq_report_value(&report) == 128 && fsq_report_low(&report) == 0 && fsq_report_high(&report) == 0);
+    report = REFUSED(fsq_one(FSQ_JE, fsq_imm(0)), 65534, FSQ_RELATIVE_JUMP_OUT_OF_RANGE);
+    CHECK(fsq_report_value(&report) == -65536);
+    REFUSED(fsq_two(FSQ_ADD, at_bx, fsq_imm(5)), 0, FSQ_OPERAND_SIZE_NOT_SPECIFIED);
+    REFUSED(fsq_two(FSQ_ADD, ax, cl), 0, FSQ_OPERAND_SIZES_DO_NOT_MATCH);
+    REFUSED(fsq_one(FSQ_INC, at_bx), 0, FSQ_INVALID_OPERAND_SIZE);
+    REFUSED(fsq_none(FSQ_INT1), 0, FSQ_NOT_SUPPORTED);
+}
+
+static void calls(void) {
+    fsq_record_t aam = fsq_record_with_span(fsq_none(FSQ_AAM), 2, 5), malformed = aam, ret = fsq_none(FSQ_RET);
+    fsq_record_t add = fsq_two(FSQ_ADD, fsq_reg(FSQ_AX), fsq_imm(5)), word = fsq_two(FSQ_ADD, fsq_mem(FSQ_WORD, FSQ_BASE_BX, 0), fsq_imm(5));
+    fsq_report_t report;
+    fsq_list_t list;
+    uint8_t out[FSQ_STRING_LENGTH] = {0};
+    size_t i;
+    int stays = 1;
+
+    /* A null slice, with length 0 and with another; null records, lists and reports. */
+    CHECK(fsq_encode_at(&aam, 0, NULL, 0, &report) == -FSQ_SLICE_TOO_SHORT);
+    CHECK(fsq_report_span_start(&report) == 2 && fsq_report_span_end(&report) == 5 && fsq_report_length(&report) == 0);
+    CHECK(fsq_encode_at(&aam, 0, NULL, 7, NULL) == -FSQ_SLICE_TOO_SHORT);
+    CHECK(fsq_encode_at(&aam, 0, out, 0, NULL) == -FSQ_SLICE_TOO_SHORT);
+    CHECK(fsq_encode_at(&aam, 0, out, 1, NULL) == -FSQ_SLICE_TOO_SHORT && out[0] == 0);
+    CHECK(fsq_encode_at(&aam, 0, out, 2, NULL) == 2 && is(out, 3, "D4 0A 00"));
+    CHECK(fsq_encode_at(&ret, 0, NULL, 1, NULL) == -FSQ_SLICE_TOO_SHORT && fsq_encode_at(&ret, 0, NULL, 0, NULL) == -FSQ_SLICE_TOO_SHORT);
+    CHECK(fsq_encode_at(&ret, 0, out, 1, NULL) == 1 && is(out, 2, "C3 0A"));
+    CHECK(fsq_encode_at(NULL, 0, out, sizeof out, &report) == -FSQ_WRONG_LENGTH && fsq_report_record(&report) == FSQ_NO_RECORD);
+    CHECK(fsq_encode_at(NULL, 0, NULL, 0, NULL) == -FSQ_WRONG_LENGTH);
+    CHECK(fsq_list_at(&aam, 0, NULL, &report) == -FSQ_SLICE_TOO_SHORT && fsq_report_span_end(&report) == 5);
+    CHECK(fsq_list_at(NULL, 0, &list, NULL) == -FSQ_WRONG_LENGTH);
+    CHECK(fsq_list_at(NULL, 0, NULL, NULL) == -FSQ_WRONG_LENGTH);
+    malformed.bytes[FSQ_COUNT_AT] = 3;
+    CHECK(fsq_encode_at(&malformed, 0, out, sizeof out, NULL) == -FSQ_NOT_WELL_FORMED);
+
+    /* REFERENCE 7. */
+    memset(&list, 0xA5, sizeof list);
+    CHECK(fsq_list_at(&add, 0, &list, &report) == 3 && list.count == 3 && fsq_report_length(&report) == 3);
+    CHECK(fsq_entry_length(&list, 0) == 3 && is(fsq_entry_bytes(&list, 0), 3, "05 05 00"));
+    CHECK(fsq_entry_length(&list, 1) == 3 && is(fsq_entry_bytes(&list, 1), 7, "83 C0 05 00 00 00 00"));
+    CHECK(fsq_entry_length(&list, 2) == 4 && is(fsq_entry_bytes(&list, 2), 4, "81 C0 05 00"));
+    for (i = 24; i < 96; i++)
+        stays &= list.bytes[i] == 0xA5;
+    CHECK(stays);
+    CHECK(fsq_entry_length(&list, 3) == 0 && fsq_entry_length(&list, 11) == 0 && fsq_entry_length(&list, 12) == 0);
+    CHECK(fsq_entry_length(&list, (size_t) -1) == 0 && fsq_entry_bytes(&list, (size_t) -1) == list.bytes + 1);
+    CHECK(fsq_list_at(&word, 0, &list, NULL) == 12 && fsq_entry_length(&list, 11) == 7 && fsq_entry_length(&list, 12) == 0 && is(fsq_entry_bytes(&list, 0), fsq_entry_length(&list, 0), "83 07 05"));
+    add = fsq_one(FSQ_PUSH, fsq_reg(FSQ_AX));
+    CHECK(fsq_list_at(&add, 0, &list, NULL) == 2 && is(fsq_entry_bytes(&list, 0), fsq_entry_length(&list, 0), "50"));
+    CHECK(is(fsq_entry_bytes(&list, 1), fsq_entry_length(&list, 1), "FF F0"));
+}
+
+/* Reads bytes in hexadecimal. */
+static int reads(const char *text, uint16_t offset, fsq_reading_t *reading) {
+    uint8_t read[FSQ_STRING_LENGTH];
+    size_t length = 0;
+    unsigned byte;
+    int taken_of_text = 0;
+    while (length < sizeof read && sscanf(text, "%2x%n", &byte, &taken_of_text) == 1) {
+        read[length++] = (uint8_t) byte;
+        text += taken_of_text;
+    }
+    return fsq_read_at(read, length, offset, reading);
+}
+
+static void readings(void) {
+    fsq_reading_t r, kept;
+    uint8_t byte = 0xC3;
+    CHECK(reads("83 C0 05", 0, &r) == 3 && fsq_reading_length(&r) == 3 && fsq_reading_operation(&r) == FSQ_ADD);
+    CHECK(fsq_reading_width(&r) == FSQ_WORD && fsq_reading_opcode(&r) == 0x83 && fsq_reading_extension(&r) == FSQ_EXTENSION_DIGIT + 0);
+    CHECK(fsq_reading_kind(&r, 0) == FSQ_READ_REGISTER && fsq_reading_number(&r, 0) == FSQ_AX % 8);
+    CHECK(fsq_reading_kind(&r, 1) == FSQ_READ_IMMEDIATE && fsq_reading_value(&r, 1) == 5);
+    CHECK(fsq_reading_operand(&r, 0) == r.bytes + 8 && fsq_reading_operand(&r, 1) == r.bytes + 16 && fsq_reading_operand(&r, 2) == r.bytes + 16);
+    CHECK(reads("05 05 00", 0, &r) == 3 && fsq_reading_opcode(&r) == 0x05 && fsq_reading_extension(&r) == FSQ_EXTENSION_NONE);
+    CHECK(reads("83 C0 FF", 0, &r) == 3 && fsq_reading_value(&r, 1) == 65535);
+    CHECK(reads("50", 0, &r) == 1 && fsq_reading_opcode(&r) == 0x50 && fsq_reading_extension(&r) == FSQ_EXTENSION_PLUS_REGISTER);
+    CHECK(fsq_reading_kind(&r, 1) == FSQ_READ_NONE);
+    CHECK(reads("1E", 0, &r) == 1 && fsq_reading_operation(&r) == FSQ_PUSH && fsq_reading_opcode(&r) == 0x06);
+    CHECK(fsq_reading_extension(&r) == FSQ_EXTENSION_PLUS_SEGMENT);
+    CHECK(fsq_reading_kind(&r, 0) == FSQ_READ_SEGMENT_REGISTER && fsq_reading_number(&r, 0) == FSQ_DS);
+    CHECK(reads("D4 0A", 0, &r) == 2 && fsq_reading_extension(&r) == FSQ_EXTENSION_0A && fsq_reading_width(&r) == FSQ_UNSPECIFIED);
+    CHECK(reads("8A 07", 0, &r) == 2 && fsq_reading_width(&r) == FSQ_BYTE && fsq_reading_extension(&r) == FSQ_EXTENSION_MODRM);
+    CHECK(fsq_reading_kind(&r, 1) == FSQ_READ_MEMORY && fsq_reading_number(&r, 1) == FSQ_BASE_BX);
+    CHECK(fsq_reading_segment(&r, 1) == FSQ_DS && fsq_reading_value(&r, 1) == 0);
+    CHECK(reads("8A 46 00", 0, &r) == 3 && fsq_reading_number(&r, 1) == FSQ_BASE_BP && fsq_reading_segment(&r, 1) == FSQ_SS);
+    CHECK(reads("26 8A 07", 0, &r) == 3 && fsq_reading_segment(&r, 1) == FSQ_ES);
+    CHECK(reads("A1 34 12", 0, &r) == 3 && fsq_reading_number(&r, 1) == FSQ_BASE_NONE && fsq_reading_value(&r, 1) == 4660);
+    CHECK(reads("EA 34 12 78 56", 0, &r) == 5 && fsq_reading_kind(&r, 0) == FSQ_READ_FAR);
+    CHECK(fsq_reading_value(&r, 0) == 4660 && fsq_reading_far_segment(&r, 0) == 22136);
+    CHECK(reads("74 7F", 0, &r) == 2 && fsq_reading_kind(&r, 0) == FSQ_READ_NEAR && fsq_reading_value(&r, 0) == 129);
+    CHECK(reads("74 80", 256, &r) == 2 && fsq_reading_value(&r, 0) == 130);
+    CHECK(reads("D1 E0", 0, &r) == 2 && fsq_reading_kind(&r, 1) == FSQ_READ_ONE && fsq_reading_extension(&r) == FSQ_EXTENSION_DIGIT + 4);
+    CHECK(reads("FF 17", 0, &r) == 2 && fsq_reading_width(&r) == FSQ_WORD && fsq_reading_extension(&r) == FSQ_EXTENSION_DIGIT + 2);
+    CHECK(reads("FF 1F", 0, &r) == 2 && fsq_reading_width(&r) == FSQ_UNSPECIFIED);
+    CHECK(reads("F3 A4", 0, &r) == 1 && fsq_reading_operation(&r) == FSQ_REP);
+    CHECK(reads("F3 A4", 0, NULL) == 1);
+    kept = r;
+    CHECK(reads("26 8B C0", 0, &r) == -FSQ_NOT_AN_INSTRUCTION && reads("26", 0, &r) == -FSQ_NOT_COMPLETE);
+    CHECK(reads("83 C0", 0, &r) == -FSQ_NOT_COMPLETE && reads("26 8B C0", 0, NULL) == -FSQ_NOT_AN_INSTRUCTION);
+    CHECK(fsq_read_at(NULL, 0, 0, &r) == -FSQ_NOT_COMPLETE && fsq_read_at(NULL, 5, 0, NULL) == -FSQ_NOT_COMPLETE);
+    CHECK(fsq_read_at(&byte, 0, 0, &r) == -FSQ_NOT_COMPLETE);
+    CHECK(memcmp(&kept, &r, sizeof r) == 0);
+}
+
+static void shows(void) {
+    fsq_record_t mov = fsq_two(FSQ_MOV, fsq_reg(FSQ_AX), fsq_imm(4660)), aam = fsq_none(FSQ_AAM), loop = fsq_one(FSQ_LOOP, fsq_imm(256));
+    fsq_record_t far_loop = fsq_record_with_span(fsq_one(FSQ_LOOP, fsq_with_span(fsq_imm(512), 25, 28)), 20, 28), unknown = aam;
+    static uint8_t whole[FSQ_FILE_LENGTH], whole_image[FSQ_IMAGE_LENGTH];
+    uint8_t file[9 + 3 * 56 + 1], image[9];
+    fsq_report_t report;
+    uint16_t i;
+    memset(file, 0xA5, sizeof file);
+    memset(image, 0xA5, sizeof image);
+
+    CHECK(fsq_write_header(file, 8, 256, 3) == -FSQ_SLICE_TOO_SHORT && fsq_write_header(NULL, 0, 256, 3) == -FSQ_SLICE_TOO_SHORT);
+    CHECK(fsq_write_header(NULL, 9, 256, 3) == -FSQ_SLICE_TOO_SHORT && fsq_write_header(file, 9, 256, 1001) == -FSQ_WRONG_LENGTH);
+    CHECK(file[0] == 0xA5);
+    CHECK(fsq_write_header(file, sizeof file, 256, 3) == 9 && is(file, 10, "46 53 51 01 00 00 01 03 00 A5"));
+    CHECK(fsq_write_record(file, 64, 0, &mov) == -FSQ_SLICE_TOO_SHORT && fsq_write_record(NULL, 65, 0, &mov) == -FSQ_SLICE_TOO_SHORT);
+    CHECK(fsq_write_record(file, sizeof file, 3, &mov) == -FSQ_SLICE_TOO_SHORT);
+    CHECK(fsq_write_record(file, sizeof file, 1000, &mov) == -FSQ_WRONG_LENGTH && fsq_write_record(file, 65, 0, NULL) == -FSQ_WRONG_LENGTH);
+    CHECK(file[9] == 0xA5);
+    CHECK(fsq_write_record(file, sizeof file, 0, &mov) == 65 && fsq_write_record(file, sizeof file, 1, &aam) == 121);
+    CHECK(fsq_write_record(file, sizeof file, 2, &loop) == 177 && file[177] == 0xA5 && memcmp(file + 65, aam.bytes, 56) == 0);
+    CHECK(fsq_load_show(file, 177, image, sizeof image, &report) == 7 && is(image, 9, "B8 34 12 D4 0A E2 F9 A5 A5"));
+    CHECK(fsq_report_length(&report) == 7 && fsq_report_record(&report) == FSQ_NO_RECORD);
+    CHECK(fsq_load_show(file, 177, image, 7, NULL) == 7);
+    CHECK(fsq_load_show(file, 178, image, sizeof image, NULL) == -FSQ_WRONG_LENGTH);
+    CHECK(fsq_load_show(file, 3, image, sizeof image, NULL) == -FSQ_WRONG_LENGTH);
+    CHECK(fsq_load_show(file, 177, image, 6, &report) == -FSQ_SLICE_TOO_SHORT && fsq_report_record(&report) == 2);
+    CHECK(fsq_load_show(file, 177, NULL, 0, &report) == -FSQ_SLICE_TOO_SHORT && fsq_report_record(&report) == 0);
+    CHECK(fsq_load_show(file, 177, NULL, 7000, NULL) == -FSQ_SLICE_TOO_SHORT && fsq_load_show(file, 177, image, 0, NULL) == -FSQ_SLICE_TOO_SHORT);
+    CHECK(fsq_load_show(NULL, 0, image, sizeof image, &report) == -FSQ_NO_MARK && fsq_report_record(&report) == FSQ_NO_RECORD);
+    CHECK(fsq_load_show(NULL, 177, NULL, 0, NULL) == -FSQ_NO_MARK && fsq_load_show(file, 0, image, 9, NULL) == -FSQ_NO_MARK);
+
+    /* LOOP 512 at 261: its end is 263, the distance 249. */
+    CHECK(fsq_write_record(file, 177, 2, &far_loop) == 177);
+    CHECK(fsq_load_show(file, 177, image, sizeof image, &report) == -FSQ_RELATIVE_JUMP_OUT_OF_RANGE && fsq_report_value(&report) == 249);
+    CHECK(fsq_report_record(&report) == 2 && fsq_report_span_start(&report) == 25 && fsq_report_span_end(&report) == 28);
+    unknown.bytes[FSQ_OPERATION_AT] = 99;
+    CHECK(fsq_write_record(file, 177, 1, &unknown) == 177 - 56);
+    CHECK(fsq_load_show(file, 177, image, sizeof image, &report) == -FSQ_UNKNOWN_CODE && fsq_report_record(&report) == 1);
+    fsq_put_u16(file + FSQ_HEADER_VERSION_AT, 2);
+    CHECK(fsq_load_show(file, 177, image, sizeof image, NULL) == -FSQ_WRONG_VERSION);
+    CHECK(fsq_write_header(file, 9, 0, 0) == 9 && fsq_load_show(file, 9, NULL, 0, NULL) == 0);
+    aam = fsq_none(FSQ_RET);
+    CHECK(fsq_write_header(file, 9, 0, 1) == 9 && fsq_write_record(file, 65, 0, &aam) == 65);
+    CHECK(fsq_load_show(file, 65, NULL, 0, NULL) == -FSQ_SLICE_TOO_SHORT && fsq_load_show(file, 65, NULL, 1, NULL) == -FSQ_SLICE_TOO_SHORT);
+    CHECK(fsq_load_show(file, 65, image, 1, NULL) == 1 && image[0] == 0xC3);
+
+    /* The longest: a thousand records, MOV word ES:[BX+4660],22136, of seven bytes each. */
+    mov = fsq_two(FSQ_MOV, fsq_with_segment(fsq_mem(FSQ_WORD, FSQ_BASE_BX, 4660), FSQ_ES), fsq_imm(22136));
+    CHECK(fsq_write_header(whole, sizeof whole, 0, 1000) == 9);
+    for (i = 0; i < 1000; i++)
+        CHECK(fsq_write_record(whole, sizeof whole, i, &mov) == 9 + 56 * (i + 1));
+    CHECK(fsq_load_show(whole, sizeof whole, whole_image, sizeof whole_image, &report) == 7000 && fsq_report_length(&report) == 7000);
+    CHECK(is(whole_image + 6993, 7, "26 C7 87 34 12 78 56"));
+    CHECK(fsq_load_show(whole, sizeof whole, whole_image, 6999, &report) == -FSQ_SLICE_TOO_SHORT && fsq_report_record(&report) == 999);
+}
+
+/* The names of REFERENCE 11, by the enumerators of the header, and its comments as sentences. */
+#define REFUSAL(name) CHECK(strcmp(fsq_refusal_name(-FSQ_##name), #name) == 0)
+/* operations.h, which tests/library/compilers writes, has OPERATION(name) for each of tools/operations.py. */
+#define OPERATION(name) \
+    CHECK(FSQ_##name == number && strcmp(fsq_operation_name(FSQ_##name), #name) == 0), number++;
+
+static void names(void) {
+    static const char *const sentences[] = {
+        "Nothing is refused.",
+        "No form of the operation takes these operands.",
+        "No operand states whether a byte or a word is meant.",
+        "One operand is a byte and the other a word.",
+        "The operation does not take an operand of this size, or none is stated.",
+        "An immediate, address, port, target or segment is outside its limits.",
+        "The target is too far for a short jump.",
+        "The encoder does not have this instruction.",
+        "The operand count is above 2, or an operand's fields contradict each other.",
+        "The lent slice is too short.",
+        "No instruction begins with these bytes.",
+        "The bytes are the front of an instruction, and more are needed.",
+        "The file does not begin with \"FSQ\".",
+        "The file's version is not 1.",
+        "The file is not as long as its count says, the count is above 1,000, or a record has not 56 bytes.",
+        "A record has an operation, kind, size or jump kind that does not exist.",
+        "This header does not know the refusal."
+    };
+    int number = 0, i;
+    REFUSAL(DONE); REFUSAL(INVALID_OPERANDS); REFUSAL(OPERAND_SIZE_NOT_SPECIFIED); REFUSAL(OPERAND_SIZES_DO_NOT_MATCH);
+    REFUSAL(INVALID_OPERAND_SIZE); REFUSAL(IMMEDIATE_OUT_OF_RANGE); REFUSAL(RELATIVE_JUMP_OUT_OF_RANGE); REFUSAL(NOT_SUPPORTED);
+    REFUSAL(NOT_WELL_FORMED); REFUSAL(SLICE_TOO_SHORT); REFUSAL(NOT_AN_INSTRUCTION); REFUSAL(NOT_COMPLETE); REFUSAL(NO_MARK);
+    REFUSAL(WRONG_VERSION); REFUSAL(WRONG_LENGTH); REFUSAL(UNKNOWN_CODE);
+    CHECK(strcmp(fsq_refusal_name(7), "DONE") == 0 && strcmp(fsq_refusal_name(7000), "DONE") == 0);
+    CHECK(strcmp(fsq_refusal_name(-16), "UNKNOWN") == 0 && strcmp(fsq_refusal_name(-2147483647 - 1), "UNKNOWN") == 0);
+    for (i = 0; i <= 16; i++)
+        CHECK(strcmp(fsq_refusal_sentence(-i), sentences[i]) == 0);
+    CHECK(fsq_refusal_sentence(7) == fsq_refusal_sentence(0) && fsq_refusal_sentence(-2147483647 - 1) == fsq_refusal_sentence(-16));
+#include "operations.h"
+    CHECK(number == 99);
+    for (i = LEAST; i <= OPERATIONS; i++)
+        CHECK((strcmp(fsq_operation_name((enum fsq_operation) i), "UNKNOWN") == 0) == (i < 0 || i > 98));
+}
+
+int main(void) {
+    numbers();
+    operands();
+    records();
+    bytes();
+    calls();
+    readings();
+    shows();
+    names();
+    printf("header: %d checks, %d failed\n", checks, failures);
+    return failures != 0;
+}

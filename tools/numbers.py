@@ -1,0 +1,308 @@
+#!/usr/bin/env python3
+"""numbers.py: the numbers that C, Rust and the scripts share with the Rattle source, compared with it. Ends with 1 where one differs or is missing.
+
+The Rattle source is what is proved. Beside it stand the header, from which tools/bindings.py writes the numbers of the Rust crate and of every driver in
+Rust; the names and types of the crate; tools/operations.py, from which the scripts that write test data have theirs; and docs/REFERENCE.md. Each part says
+how many numbers it has, so that a pattern that no longer meets its text is noticed."""
+import pathlib
+import re
+import sys
+
+import bindings
+import operations as scripts
+
+ROOT = pathlib.Path(__file__).resolve().parent.parent
+OPERATIONS, REFUSALS = 99, 15
+failures = []
+
+
+def wrong(text):
+    failures.append(text)
+
+
+class Text:
+    """A file without its comments, or a part of it."""
+
+    def __init__(self, path, text=None):
+        self.path = path
+        self.text = re.sub(r'//.*|/\*.*?\*/', lambda m: '' if m[0].startswith('//') else ' ', (ROOT / path).read_text(), flags=re.S if path.endswith('.h') else 0) \
+            if text is None else text
+
+    def part(self, begin, end='\n}'):
+        """What stands between a line and the end of its block."""
+        found = re.search(begin + r'(.*?)' + end, self.text, re.S)
+        if found is None:
+            wrong(f'{self.path}: nothing is `{begin}`')
+        return Text(self.path, found[1] if found else '')
+
+    def all(self, pattern, count):
+        found = re.findall(pattern, self.text)
+        if len(found) != count:
+            wrong(f'{self.path}: {len(found)} and not {count} of `{pattern}`')
+        return found
+
+    def one(self, pattern):
+        return next(iter(self.all(pattern, 1)), None)
+
+    def number(self, pattern):
+        found = self.one(pattern)
+        return None if found is None else int(found, 0)
+
+    def numbers(self, pattern, count, name=lambda name: name):
+        """Names by a pattern of a name and a number."""
+        return {name(n): int(v, 0) for n, v in self.all(pattern, count)}
+
+    def order(self, pattern, count, name=lambda name: name):
+        return {name(n): k for k, n in enumerate(self.all(pattern, count))}
+
+
+def snake(name):
+    """InvalidOperands as INVALID_OPERANDS."""
+    return re.sub(r'(?<=[a-z])(?=[A-Z])', '_', name).upper()
+
+
+def compare(what, place, given, expected, prefix=''):
+    """Every name with its number, in a place, as the source has it; none more and none less."""
+    if not given:
+        wrong(f'{what}: {place} has none')
+        return len(expected)
+    for name in sorted(given.keys() | expected.keys()):
+        if given.get(name) != expected.get(name):
+            told = [f'{table[name]}' if name in table else 'none' for table in (given, expected)]
+            wrong(f'{what} {prefix}{name}: {place} has {told[0]}, the source {told[1]}')
+    return len(expected)
+
+
+def source():
+    """The numbers of the Rattle source, by the enums of the header. Where the source has one twice, both are compared."""
+    code = {name: Text(f'crates/{path}.rt') for name, path in dict(
+        operations='mrc_compiler/src/operations', data='mrc_compiler/src/encoder/mod', ast='mrc_compiler/src/ast', record='show_record/src/lib', file='show_file/src/lib',
+        report='foreign_report/src/lib', read='foreign/src/read', encode='foreign/src/encode', load='foreign/src/load', operands='x86/src/operands', reader='reader/src/lib',
+        slots='read_slots/src/lib', run='encode_run/src/lib', lister='lister/src/lib', entries='list_entries/src/lib').items()}
+    s = {}
+
+    def twice(what, text, given, expected):
+        compare(what, text.path, given, expected)
+
+    # Operations.
+    text = code['operations']
+    s['operation'] = text.part(r'pub enum Operation \{').order(r'(\w+),', OPERATIONS)
+    twice('operation', text, text.numbers(r'Operation::(\w+) => (\d+),', OPERATIONS), s['operation'])
+    twice('operation', text, {n: int(v) for v, n in text.all(r'(\d+) => Operation::(\w+),', OPERATIONS)}, s['operation'])
+    known = code['record'].number(r'if (\d+) <= bytes\[OPERATION\]')
+    twice('operation', code['record'], {'count': known}, {'count': len(s['operation'])})
+
+    # Kinds, sizes and jump kinds, and the first code that is unknown.
+    for enum, rattle, count, fields in (('kind', 'OperandKind', 4, ['KIND']), ('size', 'OperandSize', 3, ['SIZE', 'DISPLACEMENT_SIZE']), ('jump', 'JumpKind', 4, ['JUMP_KIND'])):
+        name = lambda n: 'NO_KIND' if (enum, n) == ('jump', 'None') else snake(n)
+        s[enum] = {name(n): int(v) for v, n in code['record'].all(rf'(\d+) => {rattle}::(\w+),', count)}
+        twice(enum, code['data'], code['data'].part(rf'pub enum {rattle} \{{').order(r'(\w+),', count, name), s[enum])
+        for field in fields:
+            known = code['record'].one(rf'(\d+) <= bytes\[at \+ {field}\]|bytes\[at \+ {field}\] < (\d+)')
+            twice(enum, code['record'], {f'first unknown of {field}': known and int(''.join(known))}, {f'first unknown of {field}': count})
+    twice('size', code['operands'], code['operands'].numbers(r'OperandSize::(\w+) => (\d+),', 3, snake), s['size'])
+
+    # Refusals: the encoder's, the loader's, the reader's; then where they cross.
+    s['answer'] = {'DONE': 0}
+    s['answer'] |= code['file'].numbers(r'EncodeError::(\w+)\([_, ]*\) => (\d+),', 9, snake)
+    s['answer'] |= {'NOT_AN_INSTRUCTION': code['reader'].number(r'Decoded::Nothing => Refusal::Is\((\d+)\)'), 'NOT_COMPLETE': code['reader'].number(r'Decoded::More => Refusal::Is\((\d+)\)')}
+    s['answer'] |= code['file'].numbers(r'LoadError::(\w+)(?:\(_\))? => (\d+),', 4, snake)
+    if len(s['answer']) != REFUSALS + 1:
+        wrong(f'the source has {len(s["answer"]) - 1} and not {REFUSALS} refusals')
+    crossing = code['report'].numbers(r'EncodeError::(\w+)\(span\) => response_span\((\d+), span\)', 7, snake)
+    crossing |= code['report'].numbers(r'EncodeError::(\w+)\(span, .*\) => Response \{\s*number: (\d+),', 2, snake)
+    crossing |= code['load'].numbers(r'LoadError::(\w+)(?:\(k\))? => (?:of_record\()?response_alone\((\d+)\)', 4, snake)
+    crossing |= {'NOT_AN_INSTRUCTION': code['read'].number(r'Decoded::Nothing => (\d+),'), 'NOT_COMPLETE': code['read'].number(r'Decoded::More => (\d+),')}
+    twice('refusal', Text('crates/foreign', ''), {'DONE': 0} | crossing, s['answer'])
+    record = {'WRONG_LENGTH': code['encode'].number(r'RECORD_LENGTH \{\s*return (\d+);'), 'UNKNOWN_CODE': code['encode'].number(r'codes_known\(rec\) \{ 0 \} else \{ (\d+) \}')}
+    twice('refusal', code['encode'], record, {name: s['answer'].get(name) for name in record})
+
+    # A record and its operands.
+    values = {}
+    for name, value in code['record'].all(r'const (\w+): usize = (.*);', 17):
+        values[name] = sum(int(part) if part.isdigit() else values[part] for part in value.split(' + '))
+    names = dict(KIND='KIND', SIZE='SIZE', PREFIX='PREFIX', DISPLACEMENT_SIZE='DISPLACEMENT_SIZE', JUMP='JUMP_KIND', MODE='MODE', RM='RM', IMMEDIATE='IMM', DISPLACEMENT='DISPLACEMENT',
+        OPERAND_SPAN_START='OPERAND_SPAN')
+    after = code['record'].number(r'end: u32_at\(bytes, at \+ (\d+)\)')
+    s['operand'] = {f'{name}_AT': values.get(rattle) for name, rattle in names.items()} | {'OPERAND_SPAN_END_AT': values['OPERAND_SPAN'] + after}
+    s['record'] = {f'{name}_AT': values.get(name) for name in ('OPERATION', 'COUNT', 'FIRST', 'SECOND')}
+    s['record'] |= {'SPAN_START_AT': values['SPAN'], 'SPAN_END_AT': values['SPAN'] + after}
+
+    # The header of a file, its limits, and all lengths.
+    text = code['file']
+    s['header'] = {f'{name.upper()}_AT': at for name, at in text.numbers(r'let (\w+) = u16_at\(file, (\d+)\);', 3, lambda n: f'HEADER_{n}').items()} | {'HEADER_MARK_AT': 0}
+    s['mark'] = bytes(int(v, 0) for v in text.all(r'byte_at\(file, [0-2]\) [!=]= (0x\w\w)', 3))
+    entries, string = code['lister'].number(r'let mut keys: \[u64; (\d+)\]'), code['run'].number(r'pub bytes: \[u8; (\d+)\]')
+    entry, most = code['entries'].number(r'let at = (\d+) \* n;'), text.number(r'const MOST_RECORDS: u16 = (\d+);')
+    s['limit'] = {'MOST_RECORDS': most, 'MOST_ENTRIES': entries, 'FILE_VERSION': text.number(r'if version != (\d+) ')}
+    header = text.number(r'const HEADER_LENGTH: usize = (\d+);')
+    s['length'] = {'RECORD_LENGTH': values['RECORD_LENGTH'], 'OPERAND_LENGTH': values['OPERAND_LENGTH'], 'HEADER_LENGTH': header,
+        'REPORT_LENGTH': code['report'].number(r'if report\.len\(\) < (\d+) '), 'READING_LENGTH': code['read'].number(r'if out\.len\(\) < (\d+) '),
+        'LIST_LENGTH': code['lister'].number(r'if out\.len\(\) < (\d+) '), 'ENTRY_LENGTH': entry, 'STRING_LENGTH': string, 'IMAGE_LENGTH': string * most,
+        'FILE_LENGTH': header + values['RECORD_LENGTH'] * most}
+    twice('length', code['lister'], {'LIST_LENGTH': s['length']['LIST_LENGTH']}, {'LIST_LENGTH': entry * entries})
+
+    # The report: three numbers of four bytes at a place.
+    def threes(text, names):
+        found = {}
+        for at, three in text.all(r'put_three\(\w+, (\d+), (.*)\)', 2):
+            found |= {name: int(at) + 4 * k for k, name in enumerate(three.split(', '))}
+        if found.keys() != names.keys():
+            wrong(f'{text.path}: put_three writes {", ".join(found)}')
+        return {new: found.get(old) for old, new in names.items()}
+
+    report = {'response.length': 'LENGTH', 'span.start': 'SPAN_START', 'span.end': 'SPAN_END', 'value': 'VALUE', 'low': 'LOW', 'high': 'HIGH'}
+    written = threes(code['report'].part(r'pub fn write_report\('), report) | {'RECORD': code['report'].number(r'put_u32\(report, (\d+), response\.record\)')}
+    s['report'] = {f'REPORT_{name}_AT': at for name, at in written.items()} | {f'TOLD_{name}_AT': at for name, at in written.items()}
+    s['define'] = {'NO_RECORD': code['report'].number(r'const NO_RECORD: u32 = (\d+);')}
+
+    # A reading: numbers of four bytes, each put together from its low byte up.
+    text = code['read']
+    words = threes(text.part(r'fn write_read\('), dict(head='head', digit='EXTENSION', a='FIRST', b='first values', c='SECOND', d='second values'))
+    head = text.one(r'\((\w) % 256\) as u32 \+ 256 \* \((\w+) as u32 \+ 256 \* \((\w+) as u32 \+ 256 \* \((\w+) as u32\)\)\)')
+    if head != ('n', 'number', 'size', 'opcode'):
+        wrong(f'{text.path}: the head of a reading is {head}')
+    s['reading'] = {f'READ_{name}_AT': words['head'] + k for k, name in enumerate(('LENGTH', 'OPERATION', 'WIDTH', 'OPCODE'))}
+    s['reading'] |= {f'READ_{name}_AT': words[name] for name in ('EXTENSION', 'FIRST', 'SECOND')}
+    fields = text.one(r'operand_type\.(\w+) as u32 \+ 256 \* \(operand_type\.(\w+) as u32 \+ 256 \* \((\w+) as u32\)\)') or ()
+    s['read_operand'] = {f'READ_{name.upper()}_AT': k for k, name in enumerate(fields)}
+    far = text.number(r'wrapping_add_u16\(displacement, value\) as u32 \+ (65536) \* \(far as u32\)')
+    value = words['first values'] - words['FIRST']
+    s['read_operand'] |= {'READ_VALUE_AT': value, 'READ_FAR_SEGMENT_AT': value + (far or 1).bit_length() // 8}
+    kinds = code['operands'].numbers(r'pub const (\w+): u8 = (\d+);', 8)
+    s['read_kind'] = {f'READ_{"NONE" if name == "NO_OPERAND" else name}': value for name, value in kinds.items()}
+    s['extension'] = text.numbers(r'Extension::(\w+) => (\d+),', 5, lambda n: 'EXTENSION_' + {'ModRm': 'MODRM', 'Second0A': '0A'}.get(n, snake(n)))
+    s['extension']['EXTENSION_DIGIT'] = text.number(r'Extension::Digit\(n\) => std::num::wrapping_add_u8\((\d+), n\)')
+
+    # Registers, segments and bases: those of a word are 8 more in the header's enum, where a record has them modulo 8.
+    text = code['ast']
+    s['register'] = text.numbers(r'ByteRegister::(\w+) => (\d+),', 8, str.upper)
+    s['register'] |= {name: 8 + value for name, value in text.numbers(r'WordRegister::(\w+) => (\d+),', 8, str.upper).items()}
+    s['segment'] = text.numbers(r'Segment::(\w+) => (\d+),', 4)
+    twice('segment', code['read'], code['read'].numbers(r'Segment::(\w+) => (\d+),', 4), s['segment'])
+    s['base'] = text.numbers(r'IndirectEncoding::(\w+) => (\d+),', 8, lambda n: 'BASE_' + snake(n))
+    s['base']['BASE_NONE'] = code['slots'].number(r'Operand::Memory\((\d+), word_at')
+    s['prefix'] = code['data'].number(r'(0x\w\w) \+ seg\.encoding\(\) \* 8')
+    return s
+
+
+def header(s):
+    """The enums of the header, and what its inline functions have of them."""
+    place = 'library/include/fsq.h'
+    enums = bindings.enums((ROOT / place).read_text())
+    count = 0
+    for enum in sorted(enums.keys() | s.keys() - {'mark', 'define', 'prefix'}):
+        count += compare(enum, place, enums.get(enum, {}), s.get(enum, {}), 'FSQ_')
+    text = Text(place)
+    compare('define', place, text.numbers(r'#define FSQ_(NO_RECORD) (\d+)u', 1), s['define'], 'FSQ_')
+    for function, enum in (('refusal', 'answer'), ('operation', 'operation')):
+        names = text.part(rf'fsq_{function}_name\(.*?\) \{{', '};').order(r'"(\w+)"', len(s[enum]) + 1)
+        compare(f'{function} name', place, names, s[enum] | {'UNKNOWN': len(s[enum])})
+        count += len(names)
+    count += len(text.part(r'fsq_refusal_sentence\(.*?\) \{', '};').all(r'"(?:[^"\\]|\\.)*"', REFUSALS + 2))
+    mark = bytes(int(v, 0) for v in text.all(r'file\[FSQ_HEADER_MARK_AT(?: \+ \d)?\] = (0x\w\w);', 3))
+    compare('mark', place, {'bytes': mark}, {'bytes': s['mark']})
+    compare('prefix', place, {'ES': text.number(r'\((0x\w\w)u \+ 8u \* \(\(unsigned\) segment & 3u\)\)')}, {'ES': s['prefix']})
+    return count + 5
+
+
+def crate(s):
+    """bindings.rs is written from the header; here are the names that the crate gives to its numbers."""
+    place = 'library/rust/src/'
+    count = 0
+    text = Text(place + 'refusal.rs')
+    for pattern in (r'Reason::(\w+)(?: \{ \.\. \})? => FSQ_(\w+),', r'FSQ_(\w+) => Reason::(\w+)'):
+        for pair in text.all(pattern, REFUSALS):
+            reason, number = sorted(pair, key=str.isupper)
+            count += 1
+            if snake(reason) != number:
+                wrong(f'refusal {number}: {text.path} has it for {reason}')
+    text = Text(place + 'operand.rs')
+    for enum, type, count_of, name in (('register', 'Register', 16, str), ('segment', 'Segment', 4, str), ('base', 'Base', 8, lambda n: f'BASE_{n}')):
+        given = text.part(rf'pub enum {type} \{{').order(r'(\w+),', count_of, name)
+        count += compare(enum, text.path, given, {n: v for n, v in s[enum].items() if n != 'BASE_NONE'})
+    # and their lists, by which a number is named
+    for enum, type, count_of, pattern in (('register', 'Register', 16, r'\b([A-D][LHX]|[SB]P|[SD]I)\b'), ('segment', 'Segment', 4, r'Segment::(\w+)'), ('base', 'Base', 8, r'Base::(\w+)')):
+        given = text.part(rf'const ALL: \[{type}; {count_of}\] = ', r'\n\n').order(pattern, count_of, lambda n: f'BASE_{n}' if enum == 'base' else n)
+        count += compare(enum, f'{text.path} (ALL)', given, {n: v for n, v in s[enum].items() if n != 'BASE_NONE'})
+    names = text.part(r"fn text\(self\) -> &'static str \{", r'\}').order(r'"(\S+)"', 8, lambda n: 'BASE_' + n.replace('+', '_'))
+    count += compare('base', f'{text.path} (text)', names, {n: v for n, v in s['base'].items() if n != 'BASE_NONE'})
+    compare('prefix', text.path, {'ES': text.number(r'(0x\w\w) \+ 8 \* self as u8')}, {'ES': s['prefix']})
+    for type, variants in (('Size', 'Byte Word'), ('Jump', 'Far Near Short'), ('Kind', 'Immediate Register Segment Memory')):
+        for variant, number in text.part(rf'enum {type} \{{').all(r'(\w+) = FSQ_(\w+),', len(variants.split())):
+            count += 1
+            if not variant.upper().startswith(number):
+                wrong(f'{type.lower()} {number}: {text.path} has it for {variant}')
+    return count + 1
+
+
+def python(s):
+    place = 'tools/operations.py'
+    count = compare('operation', place, {name: k for k, name in enumerate(scripts.OPERATIONS)}, s['operation'])
+    for enum in ('kind', 'size', 'jump'):
+        count += compare(enum, place, {name: getattr(scripts, name, None) for name in s[enum]}, s[enum])
+    registers = {name: k for k, name in enumerate(scripts.BYTE_REGISTERS + scripts.WORD_REGISTERS)}
+    count += compare('register', place, registers, s['register'])
+    count += compare('segment', place, {name: k for k, name in enumerate(scripts.SEGMENTS)}, s['segment'])
+    bases = {'BASE_' + name.replace('+', '_'): k for k, name in enumerate(scripts.BASES)}
+    count += compare('base', place, bases | {'BASE_NONE': s['base']['BASE_NONE']}, s['base'])
+    count += compare('prefix', place, dict(zip(scripts.SEGMENTS, scripts.PREFIXES)), {name: s['prefix'] + 8 * k for name, k in s['segment'].items()})
+    # Where a field stands: the sizes of those before it.
+    def places(layout):
+        at, found = 0, []
+        for code in layout.format.lstrip('<'):
+            found.append(at)
+            at += {'B': 1, 'H': 2, 'i': 4, 'I': 4}[code]
+        return found
+
+    operand = dict(zip(sorted(s['operand'], key=s['operand'].get), places(scripts.OPERAND)))
+    record = dict(zip(('OPERATION_AT', 'COUNT_AT', 'SPAN_START_AT', 'SPAN_END_AT'), places(scripts.RECORD))) | {'FIRST_AT': scripts.FIRST, 'SECOND_AT': scripts.SECOND}
+    head = {f'HEADER_{name}_AT': len(scripts.MARK) + at for name, at in zip(('VERSION', 'ORIGIN', 'COUNT'), places(scripts.HEADER))} | {'HEADER_MARK_AT': 0}
+    for enum, given in (('operand', operand), ('record', record), ('header', head)):
+        count += compare(enum, place, given, s[enum])
+    lengths = {'HEADER_LENGTH': len(scripts.MARK) + scripts.HEADER.size, 'OPERAND_LENGTH': scripts.OPERAND.size, 'RECORD_LENGTH': scripts.SECOND + scripts.OPERAND.size}
+    count += compare('length', place, lengths, {name: s['length'][name] for name in lengths})
+    limits = {'MOST_RECORDS': scripts.MOST_RECORDS, 'FILE_VERSION': scripts.VERSION}
+    count += compare('limit', place, limits, {name: s['limit'][name] for name in limits})
+    return count + compare('mark', place, {'bytes': scripts.MARK}, {'bytes': s['mark']})
+
+
+def reference(s):
+    """The tables of docs/REFERENCE.md: the refusals, and the codes of a record."""
+    place = 'docs/REFERENCE.md'
+    text = Text(place, (ROOT / place).read_text())
+    rows = {name: int(number) for number, name in text.all(r'\n\| (\d+) \| ([A-Z_]+) \|', REFUSALS)}
+    count = compare('refusal', place, rows | {'DONE': 0}, s['answer'])
+    for enum, begin, names in (('kind', r'\| kind: ', r'\b(Imm|Reg|Seg|Mem) (\d)'), ('size', 'displacement size: ', r'\b(Unspecified|Byte|Word) (\d)'),
+            ('jump', r'\| jump kind: ', r'\b(none|Far|Near|Short) (\d)')):
+        given = text.part(begin, r' \|').numbers(names, len(s[enum]), lambda n: 'NO_KIND' if n == 'none' else n.upper())
+        count += compare(enum, place, given, s[enum])
+    return count
+
+
+def lists():
+    """No other file has a list of the operations or declares the library's functions for Rust."""
+    one = {r'\bXLATB\W+(?:\w+\W+){0,2}LEA\W+(?:\w+\W+){0,2}LDS\b': ['library/include/fsq.h', 'library/rust/src/bindings.rs', 'tools/operations.py'],
+        r'\bfn fsq_\w+\([^)]*\) -> u8;': ['library/rust/src/bindings.rs']}
+    files = [path for folder in ('bench', 'library', 'tests', 'tools') for path in (ROOT / folder).rglob('*') if path.suffix in ('.c', '.h', '.py', '.rs')]
+    for pattern, places in one.items():
+        found = sorted(str(path.relative_to(ROOT)) for path in files if re.search(pattern, path.read_text()))
+        if found != places:
+            wrong(f'`{pattern}` is in {", ".join(found)}, and should be in {", ".join(places)}')
+
+
+def main():
+    s = source()
+    if not failures:
+        counts = header(s), crate(s), python(s), reference(s)
+        lists()
+    for failure in failures:
+        print(f'numbers: {failure}')
+    if failures:
+        sys.exit(1)
+    print(f'numbers: {len(s["operation"])} operations, {len(s["answer"]) - 1} refusals and the rest as the Rattle source has them: header {counts[0]}, crate {counts[1]}, '
+          f'tools/operations.py {counts[2]}, REFERENCE {counts[3]}')
+
+
+if __name__ == '__main__':
+    main()
