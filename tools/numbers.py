@@ -78,7 +78,7 @@ def source():
     code = {name: Text(f'crates/{path}.rt') for name, path in dict(
         operations='mrc_compiler/src/operations', data='mrc_compiler/src/encoder/mod', ast='mrc_compiler/src/ast', record='show_record/src/lib', file='show_file/src/lib',
         report='foreign_report/src/lib', read='foreign/src/read', encode='foreign/src/encode', load='foreign/src/load', operands='x86/src/operands', reader='reader/src/lib',
-        slots='read_slots/src/lib', run='encode_run/src/lib', lister='lister/src/lib', entries='list_entries/src/lib').items()}
+        slots='read_slots/src/lib', run='encode_run/src/lib', lister='lister/src/lib', entries='list_entries/src/lib', form='text_form/src/lib', ground='encode_form/src/lib').items()}
     s = {}
 
     def twice(what, text, given, expected):
@@ -117,6 +117,9 @@ def source():
     record = {'WRONG_LENGTH': code['encode'].number(r'RECORD_LENGTH \{\s*return (\d+);'), 'UNKNOWN_CODE': code['encode'].number(r'codes_known\(rec\) \{ 0 \} else \{ (\d+) \}')}
     twice('refusal', code['encode'], record, {name: s['answer'].get(name) for name in record})
 
+    # The question of a refusal; 4's goes by the record.
+    s['question'] = code['ground'].part(r'pub fn question_of\(').numbers(r'EncodeError::(\w+)\([_, ]*\) => (\d),', 8, snake)
+
     # A record and its operands.
     values = {}
     for name, value in code['record'].all(r'const (\w+): usize = (.*);', 17):
@@ -139,7 +142,7 @@ def source():
     s['length'] = {'RECORD_LENGTH': values['RECORD_LENGTH'], 'OPERAND_LENGTH': values['OPERAND_LENGTH'], 'HEADER_LENGTH': header,
         'REPORT_LENGTH': code['report'].number(r'if report\.len\(\) < (\d+) '), 'READING_LENGTH': code['read'].number(r'if out\.len\(\) < (\d+) '),
         'LIST_LENGTH': code['lister'].number(r'if out\.len\(\) < (\d+) '), 'ENTRY_LENGTH': entry, 'STRING_LENGTH': string, 'IMAGE_LENGTH': string * most,
-        'FILE_LENGTH': header + values['RECORD_LENGTH'] * most}
+        'FILE_LENGTH': header + values['RECORD_LENGTH'] * most, 'FORM_LENGTH': code['form'].number(r'pub const MOST_LINE: usize = (\d+);')}
     twice('length', code['lister'], {'LIST_LENGTH': s['length']['LIST_LENGTH']}, {'LIST_LENGTH': entry * entries})
 
     # The report: three numbers of four bytes at a place.
@@ -191,7 +194,7 @@ def header(s):
     place = 'library/include/fsq.h'
     enums = bindings.enums((ROOT / place).read_text())
     count = 0
-    for enum in sorted(enums.keys() | s.keys() - {'mark', 'define', 'prefix'}):
+    for enum in sorted(enums.keys() | s.keys() - {'mark', 'define', 'prefix', 'question'}):
         count += compare(enum, place, enums.get(enum, {}), s.get(enum, {}), 'FSQ_')
     text = Text(place)
     compare('define', place, text.numbers(r'#define FSQ_(NO_RECORD) (\d+)u', 1), s['define'], 'FSQ_')
@@ -217,6 +220,7 @@ def crate(s):
             count += 1
             if snake(reason) != number:
                 wrong(f'refusal {number}: {text.path} has it for {reason}')
+    count += compare('question', text.path, text.part(r'fn question_of\(').numbers(r'FSQ_(\w+) => (\d),', 8), s['question'])
     text = Text(place + 'operand.rs')
     for enum, type, count_of, name in (('register', 'Register', 16, str), ('segment', 'Segment', 4, str), ('base', 'Base', 8, lambda n: f'BASE_{n}')):
         given = text.part(rf'pub enum {type} \{{').order(r'(\w+),', count_of, name)

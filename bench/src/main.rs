@@ -1,4 +1,4 @@
-//! What a call costs: our encoder, reader, lister and loader on the records of records.fsq, beside the Rust of docs/src and Zydis.
+//! What a call costs: our encoder, reader, lister, loader and the text of a form on the records of records.fsq, beside the Rust of docs/src and Zydis.
 //! `build` wraps this file and the Rust's sources into one crate; see README.md.
 
 #[allow(dead_code, unused_imports)]
@@ -67,6 +67,7 @@ fn measure(show: &Show, rounds: usize, warming: usize, timed: bool) -> Result<()
     let one_by_one = clock(&of(&["encode-rattle", "encode-rust", "encode-rust-alone"]), rounds, warming)?;
     let reads = clock(&of(&["read-rattle", "read-zydis"]), rounds, warming)?;
     let lists = clock(&of(&["list-rattle"]), rounds / 10 + 1, warming / 10)?;
+    let forms = clock(&of(&["form-rattle"]), rounds, warming)?;
     let loads = clock(&of(&["load-rattle", "load-rust"]), rounds, warming)?;
     let grown = [1, 2, 4, 8].map(|times| show.times(times));
     let turns: Vec<(&Show, &Side)> =
@@ -85,6 +86,7 @@ fn measure(show: &Show, rounds: usize, warming: usize, timed: bool) -> Result<()
         None => println!("read: rattle {}, zydis is not here", reads[0]),
     }
     println!("list: rattle {}/record", lists[0]);
+    println!("form: rattle {}/record", forms[0]);
     both("load", "/record", &loads[0], "rust", &loads[1]);
     for (longer, figures) in grown.iter().zip(growth.chunks(2)) {
         let n = longer.records.len();

@@ -23,6 +23,13 @@ pub fn list(record: &[u8; FSQ_RECORD_LENGTH], offset: u16, out: &mut [u8], repor
     (number == FSQ_DONE).then(|| length(report))
 }
 
+/// The length of the form's or question's line at the front of out.
+#[inline]
+pub fn form(record: &[u8; FSQ_RECORD_LENGTH], offset: u16, out: &mut [u8], report: &mut Report) -> Option<usize> {
+    let number = unsafe { fsq_form(record.as_ptr(), record.len(), offset, out.as_mut_ptr(), out.len(), report.as_mut_ptr(), report.len()) };
+    (number == FSQ_DONE).then(|| length(report))
+}
+
 /// The length of the instruction at the front of the bytes.
 #[inline]
 pub fn read(bytes: &[u8], offset: u16, out: &mut Reading) -> Option<usize> {

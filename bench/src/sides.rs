@@ -14,6 +14,7 @@ pub enum Writes {
     Bytes,
     Lengths,
     Lists,
+    Forms,
     Image,
 }
 
@@ -22,6 +23,7 @@ pub struct Slots {
     bytes: Vec<[u8; 8]>,
     lengths: Vec<usize>,
     lists: Vec<[u8; FSQ_LIST_LENGTH]>,
+    forms: Vec<[u8; FSQ_FORM_LENGTH]>,
     image: Vec<u8>,
 }
 
@@ -32,6 +34,7 @@ impl Slots {
             bytes: vec![[0; 8]; of(Writes::Bytes)],
             lengths: vec![0; records],
             lists: vec![[0; FSQ_LIST_LENGTH]; of(Writes::Lists)],
+            forms: vec![[0; FSQ_FORM_LENGTH]; of(Writes::Forms)],
             image: vec![0; FSQ_STRING_LENGTH * of(Writes::Image)],
         }
     }
@@ -41,6 +44,7 @@ impl Slots {
         self.bytes.fill([0; 8]);
         self.lengths.fill(0);
         self.lists.fill([0; FSQ_LIST_LENGTH]);
+        self.forms.fill([0; FSQ_FORM_LENGTH]);
         self.image.fill(0);
     }
 }
@@ -61,6 +65,7 @@ const SIDES: &[Side] = &[
     #[cfg(zydis)]
     Side { name: "read-zydis", writes: Writes::Lengths, round: read_zydis, answers: lengths_but_for_prefixes },
     Side { name: "list-rattle", writes: Writes::Lists, round: list_rattle, answers: lists },
+    Side { name: "form-rattle", writes: Writes::Forms, round: form_rattle, answers: forms },
     Side { name: "load-rattle", writes: Writes::Image, round: load_rattle, answers: image },
     Side { name: "load-rust", writes: Writes::Image, round: load_rust, answers: image },
 ];
@@ -128,6 +133,14 @@ fn list_rattle(show: &Show, slots: &mut Slots) {
 }
 
 #[inline(never)]
+fn form_rattle(show: &Show, slots: &mut Slots) {
+    let mut report: Report = [0; FSQ_REPORT_LENGTH];
+    for (n, record) in show.records.iter().enumerate() {
+        slots.lengths[n] = rattle::form(record, show.offsets[n], &mut slots.forms[n], &mut report).unwrap_or(0);
+    }
+}
+
+#[inline(never)]
 fn load_rattle(show: &Show, slots: &mut Slots) {
     let mut report: Report = [0; FSQ_REPORT_LENGTH];
     slots.lengths[0] = rattle::load(&show.file, &mut slots.image, &mut report).unwrap_or(0);
@@ -170,6 +183,15 @@ fn lengths_but_for_prefixes(show: &Show, slots: &Slots) -> Result<(), String> {
 /// The record's own string is among the entries.
 fn lists(show: &Show, slots: &Slots) -> Result<(), String> {
     each(show, |n, string| slots.lists[n].chunks(FSQ_ENTRY_LENGTH).take(slots.lengths[n]).any(|entry| entry[0] as usize == string.len && entry[1..] == string.bytes))
+}
+
+/// A form's line, whose opcode is the first byte of the record's own string that is no segment prefix.
+fn forms(show: &Show, slots: &Slots) -> Result<(), String> {
+    each(show, |n, string| {
+        let opcode = string.bytes.iter().find(|byte| !matches!(byte, 0x26 | 0x2E | 0x36 | 0x3E)).map_or(0, |opcode| *opcode);
+        let (line, behind) = slots.forms[n].split_at(slots.lengths[n]);
+        line.starts_with(format!("form {opcode:02X} ").as_bytes()) && line.ends_with(b"\n") && behind.iter().all(|byte| *byte == 0)
+    })
 }
 
 fn image(show: &Show, slots: &Slots) -> Result<(), String> {

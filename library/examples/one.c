@@ -1,4 +1,4 @@
-/* Encodes Word ADD [BX],5, reads it back, lists all of its strings, and shows a refusal. */
+/* Encodes Word ADD [BX],5, tells its form, reads it back, lists all of its strings, and shows a refusal with its question. */
 #include "fsq.h"
 #include <stdio.h>
 
@@ -12,6 +12,7 @@ int main(void) {
     fsq_record_t mov = fsq_two(FSQ_MOV, fsq_mem(FSQ_BYTE, FSQ_BASE_BX, 0), fsq_imm(300));
     uint8_t string[FSQ_STRING_LENGTH];
     fsq_reading_t reading;
+    fsq_line_t line;
     fsq_list_t list;
     fsq_report_t report;
 
@@ -20,6 +21,10 @@ int main(void) {
         return -length;
     printf("encoded: ");
     print_string(string, (size_t) length);
+
+    if (fsq_form_at(&add, 256, &line, NULL) < 0)
+        return 1;
+    puts(line.text);
 
     length = fsq_read_at(string, (size_t) length, 256, &reading);
     if (length < 0)
@@ -37,5 +42,8 @@ int main(void) {
     length = fsq_encode_at(&mov, 256, string, sizeof string, &report);
     printf("refused: %d, value %d is outside %d..%d\n", -length, (int) fsq_report_value(&report), (int) fsq_report_low(&report),
            (int) fsq_report_high(&report));
+    if (fsq_form_at(&mov, 256, &line, NULL) < 0)
+        return 1;
+    puts(line.text);
     return 0;
 }

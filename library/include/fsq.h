@@ -2,11 +2,11 @@
  * target/staticlib, where libforeign.a is the same archive under the name that `rt staticlib foreign` gives it. `make -C library install` and
  * library/CMakeLists.txt install header, library and fsq.pc, its pkg-config file.
  *
- * This header has, in this order: the numbers and offsets; the four functions of the library; and over them inline functions, which a program
+ * This header has, in this order: the numbers and offsets; the five functions of the library; and over them inline functions, which a program
  * needs no offsets for: operands (fsq_reg, fsq_mem, ..), records (fsq_none, fsq_one, fsq_two), calls whose answer is the length (fsq_encode_at,
- * fsq_list_at, fsq_read_at, fsq_load_show), fields, names, and the writing of a show file. library/examples/one.c and show.c use them.
+ * fsq_list_at, fsq_form_at, fsq_read_at, fsq_load_show), fields, names, and the writing of a show file. library/examples/one.c and show.c use them.
  *
- * The four functions work on slices that the caller lends: an address and a length. For all of them:
+ * The five functions work on slices that the caller lends: an address and a length. For all of them:
  * - A slice of any length is safe. One of length 0 may have any address that is not null.
  * - No two slices of one call may overlap.
  * - Nothing is written behind what is said here, and on a refusal nothing but the report.
@@ -21,7 +21,7 @@
 
 /* The version of this header. Another major one may take a name away, another minor one adds some. */
 #define FSQ_VERSION_MAJOR 2
-#define FSQ_VERSION_MINOR 0
+#define FSQ_VERSION_MINOR 1
 
 #ifdef __cplusplus
 extern "C" {
@@ -55,6 +55,7 @@ enum fsq_length {
     FSQ_READING_LENGTH = 24,  /* a read instruction */
     FSQ_ENTRY_LENGTH = 8,     /* an entry of a list */
     FSQ_LIST_LENGTH = 96,     /* the longest list: twelve entries */
+    FSQ_FORM_LENGTH = 64,     /* the line of a form: a slice of so many bytes takes every one */
     FSQ_HEADER_LENGTH = 9,    /* what stands before the records of a show file */
     FSQ_OPERAND_LENGTH = 23,  /* an operand of a record */
     FSQ_IMAGE_LENGTH = 7000,  /* the longest image: a slice of so many bytes takes every one */
@@ -214,6 +215,20 @@ uint8_t fsq_encode(const uint8_t *record, size_t record_len, uint16_t offset, ui
 uint8_t fsq_list(const uint8_t *record, size_t record_len, uint16_t offset, uint8_t *out, size_t out_len, uint8_t *report,
                  size_t report_len);
 
+/* Tells by which form a record is written at an offset, or which question refuses it, as the line that fsqform prints under the record's.
+ *   record, record_len   the record, 56 bytes
+ *   offset               where its bytes are to stand in the segment
+ *   out, out_len         gets, where it has 64 bytes, the line in ASCII with its line feed at its front; its later bytes stay.
+ *                        `form 83 /0 Reg:Word Imm:Unspecified -128..127`: the opcode as written, its digit where it has one, kind and stated size of
+ *                        each operand that the form uses, and the limits of the immediate, or `-` where there are none.
+ *                        `question 6` where the record is refused: the first of the questions 1 to 7 (docs/REFERENCE.md, 5) whose answer is no
+ *   report, report_len   gets the report where it has 28 bytes, else stays as it is; its length is that of the line, with its line feed
+ *   answers              FSQ_DONE, also where the record is refused; FSQ_WRONG_LENGTH and FSQ_UNKNOWN_CODE as fsq_encode, then
+ *                        FSQ_SLICE_TOO_SHORT where out_len is below 64
+ */
+uint8_t fsq_form(const uint8_t *record, size_t record_len, uint16_t offset, uint8_t *out, size_t out_len, uint8_t *report,
+                 size_t report_len);
+
 /* Reads one instruction at the front of some bytes; what follows it is not looked at.
  *   bytes, bytes_len     the bytes
  *   offset               where they stand in the segment: near targets are answered for it
@@ -234,7 +249,7 @@ uint8_t fsq_load(const uint8_t *file, size_t file_len, uint8_t *image, size_t im
 
 /* The inline functions.
  *
- * They stand over the four functions and are compiled with the program that includes this header. They allocate nothing and keep nothing.
+ * They stand over the five functions and are compiled with the program that includes this header. They allocate nothing and keep nothing.
  * Where one answers an int, it is a length or a count, 0 or more, or a refusal's number made negative, -1 to -15:
  *
  *     int length = fsq_encode_at(&record, offset, out, sizeof out, &report);
@@ -247,12 +262,13 @@ uint8_t fsq_load(const uint8_t *file, size_t file_len, uint8_t *image, size_t im
  */
 
 /* An operand, a record, a report, a read instruction and a list: their bytes, as the offsets above name them. A report cannot be too short, and a
- * list has the number of its entries beside them. */
+ * list has the number of its entries beside them. A line is a string of C. */
 typedef struct fsq_operand_t { uint8_t bytes[FSQ_OPERAND_LENGTH]; } fsq_operand_t;
 typedef struct fsq_record_t { uint8_t bytes[FSQ_RECORD_LENGTH]; } fsq_record_t;
 typedef struct fsq_report_t { uint8_t bytes[FSQ_REPORT_LENGTH]; } fsq_report_t;
 typedef struct fsq_reading_t { uint8_t bytes[FSQ_READING_LENGTH]; } fsq_reading_t;
 typedef struct fsq_list_t { uint8_t bytes[FSQ_LIST_LENGTH], count; } fsq_list_t;
+typedef struct fsq_line_t { char text[FSQ_FORM_LENGTH]; } fsq_line_t;
 
 /* The little-endian number at an address, of two bytes, of four, and of four with a sign. */
 static inline uint16_t fsq_get_u16(const uint8_t *at) {
@@ -505,6 +521,28 @@ static inline int fsq_list_at(const fsq_record_t *record, uint16_t offset, fsq_l
     return answer == FSQ_DONE ? report->bytes[FSQ_REPORT_LENGTH_AT] : -(int) answer;
 }
 
+/* Tells by which form a record is written at an offset, or which question refuses it: fsq_form.
+ *   record    the record; null is refused with FSQ_WRONG_LENGTH
+ *   offset    where its bytes are to stand in the segment
+ *   line      gets the line, a 0 in the place of its line feed, and on a refusal the empty string; null is refused with FSQ_SLICE_TOO_SHORT
+ *   report    gets the report, or is null
+ *   answers   the length of the string, or a refusal's number made negative; a record that is refused has a line too, `question N`
+ */
+static inline int fsq_form_at(const fsq_record_t *record, uint16_t offset, fsq_line_t *line, fsq_report_t *report) {
+    fsq_report_t own;
+    uint8_t answer;
+    int length;
+    if (report == NULL)
+        report = &own;
+    answer = fsq_form(record != NULL ? record->bytes : report->bytes, record != NULL ? (size_t) FSQ_RECORD_LENGTH : 0, offset,
+                      line != NULL ? (uint8_t *) line->text : report->bytes, line != NULL ? (size_t) FSQ_FORM_LENGTH : 0, report->bytes,
+                      FSQ_REPORT_LENGTH);
+    length = answer == FSQ_DONE ? report->bytes[FSQ_REPORT_LENGTH_AT] - 1 : 0;
+    if (line != NULL)
+        line->text[length] = 0;
+    return answer == FSQ_DONE ? length : -(int) answer;
+}
+
 /* Reads one instruction at the front of some bytes: fsq_read. What follows it is not looked at.
  *   bytes, bytes_len   the bytes
  *   offset             where they stand in the segment: near targets are answered for it
@@ -601,6 +639,11 @@ static inline size_t fsq_entry_length(const fsq_list_t *list, size_t entry) {
  */
 static inline const uint8_t *fsq_entry_bytes(const fsq_list_t *list, size_t entry) {
     return list->bytes + (entry < list->count ? entry : 0) * FSQ_ENTRY_LENGTH + 1;
+}
+
+/* The question that a line of fsq_form_at names, or 0 where it names a form. */
+static inline int fsq_line_question(const fsq_line_t *line) {
+    return line->text[0] == 'q' ? line->text[sizeof "question " - 1] - '0' : 0;
 }
 
 /* The fields of a read instruction. Of its operands 0 is the first, and every other number the second. */

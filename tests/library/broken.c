@@ -1,10 +1,11 @@
-// Wrong programs for tests/library/broken: the four functions with one fault each, named by FSQ_FAULT.
+// Wrong programs for tests/library/broken: the five functions with one fault each, named by FSQ_FAULT.
 #include "fsq.h"
 #include <stdlib.h>
 #include <string.h>
 
 extern __typeof__(fsq_encode) right_encode;
 extern __typeof__(fsq_list) right_list;
+extern __typeof__(fsq_form) right_form;
 extern __typeof__(fsq_read) right_read;
 extern __typeof__(fsq_load) right_load;
 
@@ -46,6 +47,26 @@ uint8_t fsq_list(const uint8_t *record, size_t n, uint16_t offset, uint8_t *out,
     uint8_t answer = right_list(record, n, offset, out, m, report, k);
     if (fault("last-entry-missing") && answer == FSQ_DONE && k >= FSQ_REPORT_LENGTH)
         memset(out + FSQ_ENTRY_LENGTH * (size_t) --report[FSQ_REPORT_LENGTH_AT], 0, FSQ_ENTRY_LENGTH);
+    return answer;
+}
+
+uint8_t fsq_form(const uint8_t *record, size_t n, uint16_t offset, uint8_t *out, size_t m, uint8_t *report, size_t k) {
+    uint8_t answer = right_form(record, n, offset, out, m, report, k);
+    int whole = answer == FSQ_DONE && k >= FSQ_REPORT_LENGTH;
+    uint8_t *length = report + FSQ_REPORT_LENGTH_AT;
+    if (fault("line-without-its-line-feed") && whole)
+        out[*length - 1] = ' ';
+    if (fault("line-one-short") && whole)
+        --*length;
+    if (fault("question-one-off") && whole && out[0] == 'q')
+        out[*length - 2]++;
+    // NEG stands in no example and in no row of header.c
+    if (fault("digit-one-off") && whole && record[FSQ_OPERATION_AT] == FSQ_NEG && out[8] == '/')
+        out[9]++;
+    if (fault("line-into-63-bytes") && answer == FSQ_SLICE_TOO_SHORT && m == FSQ_FORM_LENGTH - 1)
+        out[0] = 'f';
+    if (fault("9-where-refused") && whole && out[0] == 'q')
+        answer = FSQ_SLICE_TOO_SHORT;
     return answer;
 }
 

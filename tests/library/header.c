@@ -1,6 +1,7 @@
 /* Every inline function of library/include/fsq.h. What is expected is docs/REFERENCE.md's, or the header's own word. */
 #include "fsq.h"
 #include <stdio.h>
+#include <stdlib.h>
 #include <string.h>
 
 static int checks, failures;
@@ -14,6 +15,7 @@ static void check(int good, const char *what, int line) {
 #define CHECK(good) check((good) ? 1 : 0, #good, __LINE__)
 #define ENCODES(record, offset, bytes) encodes((record), (offset), (bytes), __LINE__)
 #define REFUSED(record, offset, number) refused((record), (offset), (number), __LINE__)
+#define FORM(record, offset, text) form_is((record), (offset), (text), __LINE__)
 
 /* What the numbers of an enum may be besides its names: in C++ those of as many bits, in C all, of which 256 has the byte of 0. */
 #ifdef __cplusplus
@@ -66,6 +68,27 @@ static fsq_report_t refused(fsq_record_t record, uint16_t offset, int number, in
     return report;
 }
 
+/* The inline function writes this string, and the library's the same with a line feed; nothing stands behind either. */
+static void form_is(fsq_record_t record, uint16_t offset, const char *text, int line) {
+    uint8_t out[FSQ_FORM_LENGTH + 1], report[FSQ_REPORT_LENGTH];
+    fsq_report_t told;
+    fsq_line_t string;
+    size_t length = strlen(text), i;
+    int question = strncmp(text, "question ", 9) == 0 ? atoi(text + 9) : 0, stays = 1;
+    memset(out, 0xA5, sizeof out);
+    memset(&string, 0xA5, sizeof string);
+    check(fsq_form_at(&record, offset, &string, &told) == (int) length && strcmp(string.text, text) == 0, text, line);
+    check(fsq_form(record.bytes, sizeof record.bytes, offset, out, sizeof out, report, sizeof report) == FSQ_DONE
+          && memcmp(out, text, length) == 0 && out[length] == 10, text, line);
+    for (i = length + 1; i < sizeof out; i++)
+        stays &= out[i] == 0xA5 && (i == FSQ_FORM_LENGTH || (uint8_t) string.text[i] == 0xA5);
+    check(stays && memcmp(report, told.bytes, sizeof report) == 0, text, line);
+    check(fsq_report_length(&told) == length + 1 && fsq_report_span_end(&told) == 0 && fsq_report_record(&told) == FSQ_NO_RECORD, text, line);
+    check(fsq_line_question(&string) == question, text, line);
+    /* A record has a form where it is encoded, and a question where it is not. */
+    check((fsq_encode_at(&record, offset, out, sizeof out, NULL) < 0) == (question != 0), text, line);
+}
+
 /* REFERENCE 3. */
 static int well_formed(const fsq_operand_t *operand) {
     int kind = operand->bytes[0], size = operand->bytes[1], prefix = operand->bytes[2], displacement_size = operand->bytes[3];
@@ -113,9 +136,9 @@ static void numbers(void) {
     CHECK(is(at, 5, "78 56 34 12 A5") && fsq_get_i32(at) == 0x12345678);
     fsq_put_u16(at, 0xABCD);
     CHECK(is(at, 3, "CD AB 34"));
-    CHECK(FSQ_VERSION_MAJOR == 2 && FSQ_VERSION_MINOR >= 0);
+    CHECK(FSQ_VERSION_MAJOR == 2 && FSQ_VERSION_MINOR >= 1);
     CHECK(sizeof(fsq_operand_t) == 23 && sizeof(fsq_record_t) == 56 && sizeof(fsq_report_t) == 28);
-    CHECK(sizeof(fsq_reading_t) == 24 && sizeof(fsq_list_t) == 97);
+    CHECK(sizeof(fsq_reading_t) == 24 && sizeof(fsq_list_t) == 97 && sizeof(fsq_line_t) == 64);
 }
 
 static void operands(void) {
@@ -330,6 +353,71 @@ static void calls(void) {
     CHECK(is(fsq_entry_bytes(&list, 1), fsq_entry_length(&list, 1), "FF F0"));
 }
 
+/* REFERENCE 9: the settled lines of document 02, No. 3, then a line for each kind of form and each question. */
+static void forms(void) {
+    fsq_operand_t ax = fsq_reg(FSQ_AX), al = fsq_reg(FSQ_AL), bx = fsq_reg(FSQ_BX), bl = fsq_reg(FSQ_BL), cl = fsq_reg(FSQ_CL), cx = fsq_reg(FSQ_CX);
+    fsq_operand_t at_bx = fsq_mem(FSQ_UNSPECIFIED, FSQ_BASE_BX, 0), word = fsq_mem(FSQ_WORD, FSQ_BASE_BX, 0), five = fsq_imm(5), beyond = fsq_imm(65536);
+    fsq_operand_t address = fsq_address(FSQ_UNSPECIFIED, 4660), far_65536 = fsq_with_jump(beyond, FSQ_FAR);
+    fsq_record_t mov = fsq_record_with_span(fsq_two(FSQ_MOV, bx, five), 2, 5), malformed = mov, unknown = mov;
+    fsq_report_t report;
+    fsq_line_t line;
+
+    FORM(fsq_two(FSQ_ADD, bx, five), 0, "form 83 /0 Reg:Word Imm:Unspecified -128..127");
+    FORM(mov, 0, "form BB Reg:Word Imm:Unspecified -32768..65535");
+    FORM(fsq_one(FSQ_PUSH, bx), 0, "form 53 Reg:Word -");
+    FORM(fsq_two(FSQ_XCHG, ax, cx), 0, "form 91 Reg:Word Reg:Word -");
+    FORM(fsq_none(FSQ_NOP), 0, "form 90 -");
+    FORM(fsq_two(FSQ_XCHG, ax, ax), 0, "form 90 Reg:Word Reg:Word -");
+    FORM(fsq_two(FSQ_SHL, bx, fsq_imm(1)), 0, "form D1 /4 Reg:Word Imm:Unspecified -");
+    FORM(fsq_two(FSQ_SHL, bx, fsq_with_size(fsq_imm(1), FSQ_BYTE)), 0, "form D1 /4 Reg:Word Imm:Byte -");
+    FORM(fsq_two(FSQ_SHL, bx, cl), 0, "form D3 /4 Reg:Word Reg:Byte -");
+    FORM(fsq_two(FSQ_MOV, al, fsq_with_segment(address, FSQ_ES)), 0, "form A0 Reg:Byte Mem:Unspecified -");
+    FORM(fsq_two(FSQ_MOV, address, ax), 0, "form A3 Mem:Unspecified Reg:Word -");
+    FORM(fsq_two(FSQ_MOV, bx, fsq_seg(FSQ_DS)), 0, "form 8C Reg:Word Seg:Word -");
+    FORM(fsq_two(FSQ_MOV, fsq_seg(FSQ_DS), bx), 0, "form 8E Seg:Word Reg:Word -");
+    FORM(fsq_two(FSQ_IN, al, five), 0, "form E4 Reg:Byte Imm:Unspecified 0..255");
+    FORM(fsq_two(FSQ_OUT, five, ax), 0, "form E7 Imm:Unspecified Reg:Word 0..255");
+    FORM(fsq_one(FSQ_JMP, fsq_far(22136, 4660)), 0, "form EA Imm:Unspecified 0..65535");
+    FORM(fsq_one(FSQ_JE, fsq_imm(129)), 0, "form 74 Imm:Unspecified -");
+    FORM(fsq_one(FSQ_LOOP, fsq_imm(0)), 0, "form E2 Imm:Unspecified -");
+    FORM(fsq_one(FSQ_CALL, five), 0, "form E8 Imm:Unspecified 0..65535");
+    FORM(fsq_one(FSQ_JMP, five), 0, "form E9 Imm:Unspecified 0..65535");
+    FORM(fsq_one(FSQ_JMP, fsq_with_jump(five, FSQ_SHORT)), 0, "form EB Imm:Unspecified 0..65535");
+    FORM(fsq_one(FSQ_INT, five), 0, "form CD Imm:Unspecified 0..255");
+    FORM(fsq_one(FSQ_RET, five), 0, "form C2 Imm:Unspecified 0..65535");
+    FORM(fsq_none(FSQ_RET), 0, "form C3 -");
+    FORM(fsq_none(FSQ_AAM), 0, "form D4 -");
+    FORM(fsq_one(FSQ_XLATB, word), 0, "form D7 Mem:Word -");
+    /* The prefix is no opcode, and the reg field of /r no digit. */
+    FORM(fsq_two(FSQ_MOV, ax, fsq_with_segment(at_bx, FSQ_ES)), 0, "form 8B Reg:Word Mem:Unspecified -");
+    FORM(fsq_two(FSQ_SUB, fsq_mem(FSQ_BYTE, FSQ_BASE_BX, 0), five), 0, "form 80 /5 Mem:Byte Imm:Unspecified -128..255");
+    FORM(fsq_two(FSQ_XCHG, cl, at_bx), 0, "form 86 Reg:Byte Mem:Unspecified -");
+    FORM(fsq_one(FSQ_CALL, fsq_with_jump(at_bx, FSQ_FAR)), 0, "form FF /3 Mem:Unspecified -");
+
+    malformed.bytes[FSQ_COUNT_AT] = 3;
+    FORM(malformed, 0, "question 1");
+    FORM(fsq_none(FSQ_ESC), 0, "question 2");
+    FORM(fsq_two(FSQ_ADD, at_bx, five), 0, "question 3");
+    FORM(fsq_one(FSQ_POP, five), 0, "question 3");
+    FORM(fsq_one(FSQ_POP, fsq_with_size(five, FSQ_BYTE)), 0, "question 3");
+    FORM(fsq_one(FSQ_POP, fsq_with_size(five, FSQ_WORD)), 0, "question 5");
+    FORM(fsq_two(FSQ_MOV, ax, bl), 0, "question 4");
+    FORM(fsq_one(FSQ_CALL, far_65536), 0, "question 5");
+    FORM(fsq_one(FSQ_JMP, beyond), 0, "question 6");
+    FORM(fsq_one(FSQ_JMP, far_65536), 0, "question 6");
+    FORM(fsq_one(FSQ_JE, fsq_imm(130)), 0, "question 7");
+    FORM(fsq_one(FSQ_JE, fsq_imm(130)), 256, "form 74 Imm:Unspecified -");
+
+    /* Null records, lines and reports; an unknown code before a line that is null. */
+    CHECK(fsq_form_at(&mov, 0, &line, NULL) == 46 && line.text[45] == '5' && line.text[46] == 0);
+    CHECK(fsq_form_at(NULL, 0, &line, &report) == -FSQ_WRONG_LENGTH && line.text[0] == 0 && line.text[1] == 'o');
+    CHECK(fsq_line_question(&line) == 0 && fsq_report_length(&report) == 0);
+    CHECK(fsq_form_at(&mov, 0, NULL, &report) == -FSQ_SLICE_TOO_SHORT && fsq_report_span_start(&report) == 2 && fsq_report_span_end(&report) == 5);
+    CHECK(fsq_form_at(&mov, 0, NULL, NULL) == -FSQ_SLICE_TOO_SHORT && fsq_form_at(NULL, 0, NULL, NULL) == -FSQ_WRONG_LENGTH);
+    unknown.bytes[FSQ_OPERATION_AT] = 99;
+    CHECK(fsq_form_at(&unknown, 0, &line, NULL) == -FSQ_UNKNOWN_CODE && fsq_form_at(&unknown, 0, NULL, NULL) == -FSQ_UNKNOWN_CODE);
+}
+
 /* Reads bytes in hexadecimal. */
 static int reads(const char *text, uint16_t offset, fsq_reading_t *reading) {
     uint8_t read[FSQ_STRING_LENGTH];
@@ -486,6 +574,7 @@ int main(void) {
     records();
     bytes();
     calls();
+    forms();
     readings();
     shows();
     names();

@@ -1,4 +1,4 @@
-/* slices FILE: the four functions and the header's inline functions over them on lent slices of every length that can matter, with the records of a
+/* slices FILE: the five functions and the header's inline functions over them on lent slices of every length that can matter, with the records of a
  * show file, whole and with a byte changed.
  *
  * Every slice ends at a page that cannot be touched, or begins behind one, and what is only read cannot be written: a byte outside ends the program.
@@ -74,10 +74,12 @@ static void handed(const char *function, const void *from, size_t n, const void 
 
 uint8_t __real_fsq_encode(const uint8_t *, size_t, uint16_t, uint8_t *, size_t, uint8_t *, size_t);
 uint8_t __real_fsq_list(const uint8_t *, size_t, uint16_t, uint8_t *, size_t, uint8_t *, size_t);
+uint8_t __real_fsq_form(const uint8_t *, size_t, uint16_t, uint8_t *, size_t, uint8_t *, size_t);
 uint8_t __real_fsq_read(const uint8_t *, size_t, uint16_t, uint8_t *, size_t);
 uint8_t __real_fsq_load(const uint8_t *, size_t, uint8_t *, size_t, uint8_t *, size_t);
 uint8_t __wrap_fsq_encode(const uint8_t *, size_t, uint16_t, uint8_t *, size_t, uint8_t *, size_t);
 uint8_t __wrap_fsq_list(const uint8_t *, size_t, uint16_t, uint8_t *, size_t, uint8_t *, size_t);
+uint8_t __wrap_fsq_form(const uint8_t *, size_t, uint16_t, uint8_t *, size_t, uint8_t *, size_t);
 uint8_t __wrap_fsq_read(const uint8_t *, size_t, uint16_t, uint8_t *, size_t);
 uint8_t __wrap_fsq_load(const uint8_t *, size_t, uint8_t *, size_t, uint8_t *, size_t);
 
@@ -91,6 +93,11 @@ uint8_t __wrap_fsq_list(const uint8_t *record, size_t n, uint16_t offset, uint8_
     return __real_fsq_list(record, n, offset, o, m, r, k);
 }
 
+uint8_t __wrap_fsq_form(const uint8_t *record, size_t n, uint16_t offset, uint8_t *o, size_t m, uint8_t *r, size_t k) {
+    handed("fsq_form", record, n, o, m, r);
+    return __real_fsq_form(record, n, offset, o, m, r, k);
+}
+
 uint8_t __wrap_fsq_read(const uint8_t *bytes, size_t n, uint16_t offset, uint8_t *o, size_t m) {
     handed("fsq_read", bytes, n, o, m, o);
     return __real_fsq_read(bytes, n, offset, o, m);
@@ -101,19 +108,20 @@ uint8_t __wrap_fsq_load(const uint8_t *file, size_t n, uint8_t *image, size_t m,
     return __real_fsq_load(file, n, image, m, r, k);
 }
 
-enum function { ENCODE, LIST, READ, LOAD };
+enum function { ENCODE, LIST, READ, LOAD, FORM };
 
 /* The bytes that one of what a function counts has. */
-static const size_t each[] = {1, FSQ_ENTRY_LENGTH, 0, 1};
+static const size_t each[] = {1, FSQ_ENTRY_LENGTH, 0, 1, 1};
 
 /* One call. `bytes` is what it reads; the answer is compared with `first`, the one that a whole report came with, where that is not negative. */
 static int call(enum function function, const uint8_t *bytes, size_t length, uint16_t offset, size_t out_len, size_t report_len, int first) {
-    static const char *names[] = {"fsq_encode", "fsq_list", "fsq_read", "fsq_load"};
+    static const char *names[] = {"fsq_encode", "fsq_list", "fsq_read", "fsq_load", "fsq_form"};
     uint8_t *o = lend(out, out_len), *r = lend(report, report_len);
     const char *wrong = NULL;
     size_t written = 0;
     uint8_t answer = function == ENCODE ? fsq_encode(bytes, length, offset, o, out_len, r, report_len)
         : function == LIST ? fsq_list(bytes, length, offset, o, out_len, r, report_len)
+        : function == FORM ? fsq_form(bytes, length, offset, o, out_len, r, report_len)
         : function == READ ? fsq_read(bytes, length, offset, o, out_len)
         : fsq_load(bytes, length, o, out_len, r, report_len);
     int reported = function != READ && report_len >= FSQ_REPORT_LENGTH;
@@ -131,6 +139,8 @@ static int call(enum function function, const uint8_t *bytes, size_t length, uin
         wrong = "a byte beside the report is changed";
     else if (function == READ && written != 0 && (o[FSQ_READ_LENGTH_AT] == 0 || o[FSQ_READ_LENGTH_AT] > length))
         wrong = "a length that the bytes do not have";
+    else if (function == FORM && answer == FSQ_DONE && reported && (written == 0 || memchr(o, 10, written) != o + written - 1))
+        wrong = "other bytes than one line with its line feed";
     if (wrong != NULL)
         failed(names[function], wrong, length, out_len, report_len, answer);
     return answer;
@@ -144,13 +154,13 @@ static void call_all(enum function function, const uint8_t *bytes, size_t length
         call(function, bytes, length, offset, out_len, reports[i], first);
 }
 
-/* An inline function beside the library's. `out_len` is that of ENCODE and LOAD; the others write a whole struct. Null are, by the bits of `nulls`, what is
+/* An inline function beside the library's. `out_len` is that of ENCODE and LOAD; the others write a struct. Null are, by the bits of `nulls`, what is
  * read (with its length), what is written (with its length) and the report. */
 static void call_inline(enum function function, const uint8_t *bytes, size_t length, uint16_t offset, size_t out_len, unsigned nulls) {
-    static const char *names[] = {"fsq_encode_at", "fsq_list_at", "fsq_read_at", "fsq_load_show"};
+    static const char *names[] = {"fsq_encode_at", "fsq_list_at", "fsq_read_at", "fsq_load_show", "fsq_form_at"};
     static uint8_t right[OUT];
     uint8_t right_report[FSQ_REPORT_LENGTH] = {0}, number;
-    size_t room = function == LIST ? sizeof(fsq_list_t) : function == READ ? FSQ_READING_LENGTH : out_len, written;
+    size_t room = function == LIST ? sizeof(fsq_list_t) : function == READ ? FSQ_READING_LENGTH : function == FORM ? sizeof(fsq_line_t) : out_len, written;
     size_t given = nulls & 1u ? 0 : length;
     /* A reading that is not wanted is read all the same. */
     size_t lent = nulls & 2u && function != READ ? 0 : function == LIST ? FSQ_LIST_LENGTH : room;
@@ -161,16 +171,25 @@ static void call_inline(enum function function, const uint8_t *bytes, size_t len
     int answer, expected;
     number = function == ENCODE ? fsq_encode(bytes, given, offset, right, lent, right_report, sizeof right_report)
         : function == LIST ? fsq_list(bytes, given, offset, right, lent, right_report, sizeof right_report)
+        : function == FORM ? fsq_form(bytes, given, offset, right, lent, right_report, sizeof right_report)
         : function == READ ? fsq_read(bytes, given, offset, right, lent)
         : fsq_load(bytes, given, right, lent, right_report, sizeof right_report);
     answer = function == ENCODE ? fsq_encode_at((const fsq_record_t *) from, offset, o, out_len, r)
         : function == LIST ? fsq_list_at((const fsq_record_t *) from, offset, (fsq_list_t *) o, r)
+        : function == FORM ? fsq_form_at((const fsq_record_t *) from, offset, (fsq_line_t *) o, r)
         : function == READ ? fsq_read_at(from, length, offset, (fsq_reading_t *) o)
         : fsq_load_show(from, length, o, out_len, r);
     calls++;
     refusals += number != FSQ_DONE;
     expected = number != FSQ_DONE ? -(int) number : function == READ ? right[FSQ_READ_LENGTH_AT] : (int) fsq_get_u32(right_report + FSQ_REPORT_LENGTH_AT);
     written = number != FSQ_DONE || o == NULL ? 0 : function == READ ? FSQ_READING_LENGTH : (size_t) expected * each[function];
+    /* The line feed becomes the string's end; on a refusal the string is empty. */
+    if (function == FORM) {
+        if (number == FSQ_DONE)
+            expected--;
+        written = o == NULL ? 0 : number == FSQ_DONE ? (size_t) expected + 1 : 1;
+        right[written == 0 ? 0 : written - 1] = 0;
+    }
     if (o != NULL && function == LIST) {
         if (((fsq_list_t *) o)->count != (number == FSQ_DONE ? expected : 0))
             wrong = "another number of entries";
@@ -226,6 +245,7 @@ static void write_inline(const fsq_record_t *record) {
 
 int main(int argc, char **argv) {
     static const size_t strings[] = {0, 1, 2, 3, 4, 5, 6, 7, 8, 100}, lists[] = {0, 8, 95, 96, 97, 200}, readings[] = {0, 1, 23, 24, 25};
+    static const size_t lines[] = {0, 1, 63, 64, 65, 200};
     static const size_t record_lengths[] = {56, 56, 56, 56, 0, 1, 55, 57};
     static uint8_t file[IN];
     FILE *f = argc == 2 ? fopen(argv[1], "rb") : NULL;
@@ -247,6 +267,8 @@ int main(int argc, char **argv) {
             for (size_t i = 0; i < sizeof strings / sizeof *strings; i++)
                 call_all(ENCODE, record, record_len, strings[i]);
             call_all(LIST, record, record_len, lists[below(6)]);
+            for (size_t i = 0; i < sizeof lines / sizeof *lines; i++)
+                call_all(FORM, record, record_len, lines[i]);
             /* Bytes that are random but for the first. */
             for (size_t i = 0; i < 8; i++)
                 file[length + i] = (uint8_t) below(256);
@@ -256,6 +278,7 @@ int main(int argc, char **argv) {
             record = lend_in(file + at, FSQ_RECORD_LENGTH, change);
             call_inline_all(ENCODE, record, FSQ_RECORD_LENGTH, strings[below(10)]);
             call_inline_all(LIST, record, FSQ_RECORD_LENGTH, 0);
+            call_inline_all(FORM, record, FSQ_RECORD_LENGTH, 0);
             write_inline((const fsq_record_t *) record);
         }
     for (int i = 0; i < 200; i++) {

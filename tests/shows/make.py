@@ -1,11 +1,12 @@
 #!/usr/bin/env python3
-"""make.py DIR writes every show of this folder, and the cases of the gate, to DIR: NAME.fsq, the show file, and NAME.out, what fsqlist has to print.
+"""make.py DIR writes every show of this folder, and the cases of the gate, to DIR: NAME.fsq, the show file, NAME.out, what fsqlist has to print, and NAME.forms,
+what fsqform has to print.
 make.py --assemble compares the bytes of this folder's shows with those of GNU as and of NASM.
 
-A show stands as text in NAME.txt, a line for each record: the instruction, a bar, and its bytes or 'refused N'. 'far', 'near' or 'short' before an operand
-is its jump kind. The listing is made from the lengths of those bytes alone. Before the records may stand 'origin N', 'version N', 'count N' (where it is
-not the records') and 'mark BYTES'; 'field NAME N' behind a record sets a byte of it, 'cut N' leaves N bytes of the file, 'more N' adds N zeros. Numbers
-are decimal."""
+A show stands as text in NAME.txt, a line for each record: the instruction, a bar, and its bytes or 'refused N'. A second bar and fsqform's line may follow.
+'far', 'near' or 'short' before an operand is its jump kind. The listing is made from the lengths of those bytes alone. Before the records may stand 'origin N',
+'version N', 'count N' (where it is not the records') and 'mark BYTES'; 'field NAME N' behind a record sets a byte of it, 'answer' gives its answer again, 'cut N'
+leaves N bytes of the file, 'more N' adds N zeros. Numbers are decimal."""
 import pathlib
 import re
 import subprocess
@@ -13,12 +14,14 @@ import sys
 import tempfile
 
 HERE = pathlib.Path(__file__).resolve().parent
-sys.path.insert(0, str(HERE.parent.parent / 'tools'))
+ROOT = HERE.parent.parent
+sys.path.insert(0, str(ROOT / 'tools'))
+import forms
 from operations import (
     BASES, BYTE, BYTE_REGISTERS, FAR, FIRST, HEADER, IMM, KINDS, JUMPS, MARK, MEM, NEAR, NO_KIND, OPERAND, OPERATIONS, RECORD, REG, SECOND, SEG, SEGMENTS, SHORT,
     SIZES, UNSPECIFIED, VERSION, WORD, WORD_REGISTERS)
 
-SAMPLE = HERE.parent.parent / 'crates/test_vectors/data/sample.txt'
+STORED = {name: ROOT / f'crates/test_vectors/data/{name}.txt' for name in ('bench_sheet', 'sample')}
 FIRST_BRANCH, LAST_BRANCH = OPERATIONS.index('CALL'), OPERATIONS.index('JCXZ')
 SAID_SIZES = {'': UNSPECIFIED, 'byte': BYTE, 'word': WORD}
 SAID_JUMPS = {'': NO_KIND, 'far': FAR, 'near': NEAR, 'short': SHORT}
@@ -60,24 +63,32 @@ def record(text):
 
 
 def show(text):
-    """The file and its listing."""
-    mark, version, origin, count, records, answers, cut, more = MARK, VERSION, 0, None, [], [], None, 0
+    """The file, its listing and its text with forms."""
+    mark, version, origin, count, records, answers, below, cut, more = MARK, VERSION, 0, None, [], [], {}, None, 0
+
+    def answer(said):
+        said, _, line = (part.strip() for part in said.partition('|'))
+        answers.append(said)
+        if line:
+            below[len(records) - 1] = line
+
     for line in text.splitlines():
         line = line.split('#')[0].strip()
         words = line.split()
         if not line:
             continue
-        if '|' in line:
-            instruction, answer = (part.strip() for part in line.split('|'))
-            records.append(record(instruction))
-            answers.append(answer)
+        if '|' in line and words[0] != 'answer':
+            instruction, _, said = line.partition('|')
+            records.append(record(instruction.strip()))
+            answer(said)
         elif words[0] == 'record':  # a record's own 56 bytes, then its answer
             records.append(bytearray.fromhex(words[1]))
-            answers.append(' '.join(words[2:]))
+            answer(' '.join(words[2:]))
         elif words[0] == 'field':
             records[-1][FIELDS[words[1]]] = int(words[2])
         elif words[0] == 'answer':
-            answers[-1] = line[len('answer'):].strip()
+            answers.pop()
+            answer(line[len('answer'):])
         elif words[0] == 'mark':
             mark = bytes.fromhex(''.join(words[1:]))
         elif words[0] == 'version':
@@ -98,13 +109,14 @@ def show(text):
     packed = mark + HEADER.pack(version, origin, len(records) if count is None else count) + b''.join(records) + bytes(more)
     refusal = text_refusal(answers)
     if refusal:
-        return packed[:cut], refusal
+        return packed[:cut], refusal, forms.text(packed, refusal, below)
     lines, offset = [f'FSQ {version} {origin:04X} {len(records)}'], origin
-    for answer in answers:
-        written = bytes.fromhex(answer)
+    for said in answers:
+        written = bytes.fromhex(said)
         lines.append(f'{offset:04X} {len(written)} {written.hex().upper()}')
         offset = (offset + len(written)) % 65536
-    return packed[:cut], '\n'.join(lines) + '\n'
+    listing = '\n'.join(lines) + '\n'
+    return packed[:cut], listing, forms.text(packed, listing, below)
 
 
 def text_refusal(answers):
@@ -147,10 +159,181 @@ NEGATIVE = ['ADD BX,-1 | 83 C3 FF', 'OR CX,-2 | 83 C9 FE', 'ADC word [BX],-128 |
 DATA = ['MOV AL,-1 | B0 FF', 'MOV AL,255 | B0 FF', 'MOV BX,-2 | BB FE FF', 'MOV byte [BX],-1 | C6 07 FF', 'ADD AL,-1 | 04 FF', 'ADD AX,-129 | 05 7F FF', 'SUB BL,-128 | 80 EB 80',
     'CMP word [BX],-32768 | 81 3F 00 80', 'TEST AL,-2 | A8 FE', 'TEST AX,-2 | A9 FE FF', 'TEST CL,-128 | F6 C1 80', 'TEST word [BX],-3 | F7 07 FD FF']
 
+# ---- fsqform's lines by hand: document 02, No. 3, and the SDM's opcode column for each group of operations
+FORMS = [
+    'ADD BX,5 | 83 C3 05 | form 83 /0 Reg:Word Imm:Unspecified -128..127',
+    'CMP word [BX],-1 | 83 3F FF | form 83 /7 Mem:Word Imm:Unspecified -128..127',
+    'ADD AX,200 | 05 C8 00 | form 05 Reg:Word Imm:Unspecified -32768..65535',
+    'AND AL,15 | 24 0F | form 24 Reg:Byte Imm:Unspecified -128..255',
+    'ADD BX,200 | 81 C3 C8 00 | form 81 /0 Reg:Word Imm:Unspecified -32768..65535',
+    'SUB byte [BX],5 | 80 2F 05 | form 80 /5 Mem:Byte Imm:Unspecified -128..255',
+    'ADD [BX],5 | 83 07 05 | form 83 /0 Mem:Unspecified Imm:Word -128..127', 'field size2 2',
+    'ADD AX,BX | 01 D8 | form 01 Reg:Word Reg:Word -',
+    'XOR CX,[BX] | 33 0F | form 33 Reg:Word Mem:Unspecified -',
+    'OR [BX],CL | 08 0F | form 08 Mem:Unspecified Reg:Byte -',
+    'NOT BL | F6 D3 | form F6 /2 Reg:Byte -',
+    'IDIV word [BX] | F7 3F | form F7 /7 Mem:Word -',
+    'INC BX | 43 | form 43 Reg:Word -',
+    'INC BL | FE C3 | form FE /0 Reg:Byte -',
+    'DEC word [BX] | FF 0F | form FF /1 Mem:Word -',
+    # MOV: the register is a part of the opcode, a prefix is none, 8C and 8E have no /n, A0 to A3 no immediate
+    'MOV BX,4660 | BB 34 12 | form BB Reg:Word Imm:Unspecified -32768..65535',
+    'MOV BL,5 | B3 05 | form B3 Reg:Byte Imm:Unspecified -128..255',
+    'MOV byte [BX],5 | C6 07 05 | form C6 /0 Mem:Byte Imm:Unspecified -128..255',
+    'MOV [BX],5 | C7 07 05 00 | form C7 /0 Mem:Unspecified Imm:Word -32768..65535', 'field size2 2',
+    'MOV BX,[SI] | 8B 1C | form 8B Reg:Word Mem:Unspecified -',
+    'MOV [SI],BX | 89 1C | form 89 Mem:Unspecified Reg:Word -',
+    'MOV BX,[SI] | 26 8B 1C | form 8B Reg:Word Mem:Unspecified -', 'field prefix2 38',
+    'MOV word [SI],5 | 3E C7 04 05 00 | form C7 /0 Mem:Word Imm:Unspecified -32768..65535', 'field prefix1 62',
+    'MOV AX,DS | 8C D8 | form 8C Reg:Word Seg:Word -',
+    'MOV DS,AX | 8E D8 | form 8E Seg:Word Reg:Word -',
+    'MOV ES,[BX] | 2E 8E 07 | form 8E Seg:Word Mem:Unspecified -', 'field prefix2 46',
+    'MOV AL,[4660] | A0 34 12 | form A0 Reg:Byte Mem:Unspecified -',
+    'MOV AX,[4660] | A1 34 12 | form A1 Reg:Word Mem:Unspecified -',
+    'MOV [4660],AL | A2 34 12 | form A2 Mem:Unspecified Reg:Byte -',
+    'MOV word [4660],AX | A3 34 12 | form A3 Mem:Word Reg:Word -',
+    'MOV AL,[4660] | 26 A0 34 12 | form A0 Reg:Byte Mem:Unspecified -', 'field prefix2 38',
+    'MOV AX,[4660] | 2E A1 34 12 | form A1 Reg:Word Mem:Unspecified -', 'field prefix2 46',
+    'MOV [4660],AL | 36 A2 34 12 | form A2 Mem:Unspecified Reg:Byte -', 'field prefix1 54',
+    'MOV [4660],AX | 3E A3 34 12 | form A3 Mem:Unspecified Reg:Word -', 'field prefix1 62',
+    # XCHG and TEST: the record's order
+    'XCHG AX,CX | 91 | form 91 Reg:Word Reg:Word -',
+    'XCHG CX,AX | 91 | form 91 Reg:Word Reg:Word -',
+    'XCHG AX,CX | 91 | form 91 Reg:Word Reg:Unspecified -', 'field size2 0',
+    'XCHG AX,CX | 91 | form 91 Reg:Unspecified Reg:Word -', 'field size1 0',
+    'XCHG CX,AX | 91 | form 91 Reg:Word Reg:Unspecified -', 'field size2 0',
+    'XCHG CX,AX | 91 | form 91 Reg:Unspecified Reg:Word -', 'field size1 0',
+    'XCHG CX,BX | 87 CB | form 87 Reg:Word Reg:Word -',
+    'XCHG CL,[BX] | 86 0F | form 86 Reg:Byte Mem:Unspecified -',
+    'XCHG [BX],CL | 86 0F | form 86 Mem:Unspecified Reg:Byte -',
+    'XCHG [BX],CX | 26 87 0F | form 87 Mem:Unspecified Reg:Word -', 'field prefix1 38',
+    'XCHG AX,AX | 90 | form 90 Reg:Word Reg:Word -',
+    'NOP | 90 | form 90 -',
+    'NOP AX,AX | 90 | form 90 -',
+    'TEST CL,[BX] | 84 0F | form 84 Reg:Byte Mem:Unspecified -',
+    'TEST [BX],CL | 84 0F | form 84 Mem:Unspecified Reg:Byte -',
+    'TEST AX,BX | 85 D8 | form 85 Reg:Word Reg:Word -',
+    'TEST AL,5 | A8 05 | form A8 Reg:Byte Imm:Unspecified -128..255',
+    'TEST AX,5 | A9 05 00 | form A9 Reg:Word Imm:Unspecified -32768..65535',
+    'TEST BL,5 | F6 C3 05 | form F6 /0 Reg:Byte Imm:Unspecified -128..255',
+    'TEST word [BX],5 | F7 07 05 00 | form F7 /0 Mem:Word Imm:Unspecified -32768..65535',
+    'PUSH BX | 53 | form 53 Reg:Word -',
+    'PUSH DS | 1E | form 1E Seg:Word -',
+    'PUSH word [BX] | FF 37 | form FF /6 Mem:Word -',
+    'POP BX | 5B | form 5B Reg:Word -',
+    'POP DS | 1F | form 1F Seg:Word -',
+    'POP word [BX] | 8F 07 | form 8F /0 Mem:Word -',
+    'LEA BX,[SI] | 8D 1C | form 8D Reg:Word Mem:Unspecified -',
+    'LEA AX,byte [BX] | 8D 07 | form 8D Reg:Word Mem:Byte -',
+    'LES BX,[SI] | C4 1C | form C4 Reg:Word Mem:Unspecified -',
+    'LDS BX,[SI] | C5 1C | form C5 Reg:Word Mem:Unspecified -',
+    # a shift's 1 or CL is an operand, as stated, and has no limits
+    'SHL AX,1 | D1 E0 | form D1 /4 Reg:Word Imm:Unspecified -',
+    'SHL AX,1 | D1 E0 | form D1 /4 Reg:Word Imm:Byte -', 'field size2 1',
+    'ROL BL,1 | D0 C3 | form D0 /0 Reg:Byte Imm:Unspecified -',
+    'RCR BX,CL | D3 DB | form D3 /3 Reg:Word Reg:Byte -',
+    'SAR byte [BX],CL | D2 3F | form D2 /7 Mem:Byte Reg:Byte -',
+    # a port is an immediate
+    'IN AL,64 | E4 40 | form E4 Reg:Byte Imm:Unspecified 0..255',
+    'IN AX,64 | E5 40 | form E5 Reg:Word Imm:Unspecified 0..255',
+    'OUT 64,AL | E6 40 | form E6 Imm:Unspecified Reg:Byte 0..255',
+    'OUT 64,AX | E7 40 | form E7 Imm:Unspecified Reg:Word 0..255',
+    'IN AL,DX | EC | form EC Reg:Byte Reg:Word -',
+    'IN AX,DX | ED | form ED Reg:Word Reg:Word -',
+    'OUT DX,AL | EE | form EE Reg:Word Reg:Byte -',
+    'OUT DX,AX | EF | form EF Reg:Word Reg:Word -',
+    'AAM | D4 0A | form D4 -',
+    'AAM AX,BX | D4 0A | form D4 -',
+    'AAD | D5 0A | form D5 -',
+    'XLATB word [BX] | D7 | form D7 Mem:Word -',
+    'XLATB word [BX] | 26 D7 | form D7 Mem:Word -', 'field prefix1 38',
+    # the count is looked at for RET only
+    'INT 33 | CD 21 | form CD Imm:Unspecified 0..255',
+    'INT | CD 00 | form CD Imm:Unspecified 0..255',
+    'ADD BX,5 | 83 C3 05 | form 83 /0 Reg:Word Imm:Unspecified -128..127', 'field count 0',
+    'RET | C3 | form C3 -',
+    'RET 5 | C3 | form C3 -', 'field count 0',
+    'RET 5 | C2 05 00 | form C2 Imm:Unspecified 0..65535',
+    'RET | C2 00 00 | form C2 Imm:Unspecified 0..65535', 'field count 2',
+    'INT3 | CC | form CC -',
+    'INTO | CE | form CE -',
+    'IRET | CF | form CF -',
+    'MOVSB | A4 | form A4 -',
+    'LOCK | F0 | form F0 -',
+    'REP | F3 | form F3 -',
+    'WAIT | 9B | form 9B -',
+    'CBW | 98 | form 98 -',
+    'PUSHF | 9C | form 9C -',
+    'DAA | 27 | form 27 -',
+    'CLI | FA | form FA -',
+    'SALC | D6 | form D6 -',
+]
+# from offset 0
+BRANCHES = [
+    'CALL 5 | E8 02 00 | form E8 Imm:Unspecified 0..65535',
+    'CALL near 5 | E8 FF FF | form E8 Imm:Unspecified 0..65535',
+    'JMP 5 | E9 FC FF | form E9 Imm:Unspecified 0..65535',
+    'JMP short 5 | EB FA | form EB Imm:Unspecified 0..65535',
+    'JMP far 4660 | EA 34 12 00 00 | form EA Imm:Unspecified 0..65535',
+    'CALL AX | FF D0 | form FF /2 Reg:Word -',
+    'CALL word [BX] | FF 17 | form FF /2 Mem:Word -',
+    'CALL far [BX] | FF 1F | form FF /3 Mem:Unspecified -',
+    'JMP AX | FF E0 | form FF /4 Reg:Word -',
+    'JMP near [BX] | FF 27 | form FF /4 Mem:Unspecified -',
+    'JE 5 | 74 E9 | form 74 Imm:Unspecified -',
+    'JNS short 5 | 79 E7 | form 79 Imm:Unspecified -',
+    'LOOPNZ 5 | E0 E5 | form E0 Imm:Unspecified -',
+    'LOOPZ 5 | E1 E3 | form E1 Imm:Unspecified -',
+    'LOOP 5 | E2 E1 | form E2 Imm:Unspecified -',
+    'JCXZ 5 | E3 DF | form E3 Imm:Unspecified -',
+]
+# the refusals of each question, by document 01's page of questions and document 02, No. 3; behind the instruction fields of its record
+QUESTIONS = {
+    1: {8: ['AAM; count 3', 'MOV AX,BX; mode1 2', 'MOV AX,BX; prefix2 38', 'AAM; kind2 1', 'PUSH AX; rm1 8']},
+    2: {7: ['INT1', 'ESC']},
+    3: {
+        2: ['ADD [BX],5', 'CMP [BX],5', 'MOV [BX],5', 'TEST [BX],5', 'XCHG [BX],CX; size2 0', 'NOT [BX]', 'IDIV [BX]', 'SHL [BX],1', 'RCR [BX],CL'],
+        4: ['INC [BX]', 'DEC [BX]', 'INC 5', 'POP 5', 'POP 5; size1 1', 'POP [BX]', 'POP byte [BX]', 'POP AL', 'POP BX; size1 0', 'XLATB [BX]', 'XLATB byte [BX]', 'XLATB'],
+    },
+    4: {3: ['ADD AX,BL', 'MOV AX,BL', 'MOV AL,5; size2 2', 'MOV DS,AL', 'TEST AX,CL', 'XCHG AX,CL', 'SUB byte [BX],AX']},
+    5: {
+        1: ['POP CS', 'PUSH AL', 'PUSH BX; size1 0', 'PUSH [BX]', 'PUSH 5', 'MOV CS,AX', 'MOV 5,AX', 'ADD DS,AX', 'TEST AX,DS', 'XCHG AX,5', 'INC 5; size1 2', 'NOT 5; size1 1',
+            'SHL BX,2', 'SHL AX,CL; size2 0', 'XLATB word [SI]', 'XLATB AX', 'CALL far 65536', 'CALL far 5', 'CALL short 5', 'CALL far AX', 'JMP far AX', 'JMP short [BX]',
+            'JMP byte [BX]', 'JE near 5', 'JE AX', 'LOOP far 5', 'IN AX,BX', 'IN AL,5; size1 0', 'OUT DL,AL', 'LEA AX,BX', 'LEA AL,[BX]', 'LDS BX,SI', 'RET AX', 'INT AX'],
+        4: ['POP 5; size1 2'],
+    },
+    6: {5: ['JMP 65536', 'JMP -1', 'JMP near 65536', 'JMP far 65536', 'JMP short 65536', 'CALL 65536', 'CALL -1', 'MOV AL,256', 'MOV byte [BX],300', 'MOV BX,65536', 'ADD BX,70000',
+        'ADD AL,-129', 'SUB word [BX],-32769', 'TEST BL,300', 'TEST AX,65536', 'IN AL,256', 'OUT -1,AL', 'INT 256', 'RET 65536']},
+    7: {6: ['JE 60000', 'JNS short 60000', 'LOOP 60000', 'JCXZ 60000', 'JMP short 30000']},
+}
+# the first question of two that a record fails
+FIRST_OF_TWO = {
+    (1, 2): {8: ['INT1; count 3']},
+    (1, 3): {8: ['NOT [BX]; count 3']},
+    (1, 4): {8: ['MOV AX,BL; count 3']},
+    (1, 5): {8: ['PUSH AL; count 3']},
+    (1, 6): {8: ['MOV AL,300; count 3', 'JMP 65536; count 3']},
+    (1, 7): {8: ['JE 60000; count 3']},
+    (3, 5): {2: ['MOV [BX],[SI]', 'NOT 5', 'SHL [BX],2'], 4: ['POP 5', 'INC 5', 'XLATB [SI]']},
+    (3, 6): {2: ['ADD [BX],70000', 'TEST [BX],70000']},
+    (4, 5): {3: ['MOV BL,DS', 'XCHG AX,5; size2 1']},
+    (4, 6): {3: ['MOV AL,70000; size2 2']},
+    (5, 6): {1: ['CALL far 65536', 'SHL AX,300', 'PUSH 70000']},
+    (5, 7): {1: ['JE near 60000']},
+    (6, 7): {5: ['JMP short 65536', 'JMP short -1']},
+}
 
-def sampled():
-    """The rows of the sample, the Rust's answers or document 02's: record, is it a branch, offset, and its answer."""
-    heading, *rows = SAMPLE.read_text().splitlines()
+
+def failing(question, refusals):
+    """A show for each record that the question refuses."""
+    for number, records in refusals.items():
+        for instruction, *fields in (line.split('; ') for line in records):
+            yield ['origin 256', MOV, f'{instruction} | refused {number} | question {question}', *(f'field {field}' for field in fields), AAM]
+
+
+def stored(name):
+    """The rows of the bench sheet (the documents' answers) or of the sample (the Rust's, or document 02's): record, is it a branch, offset, and its answer."""
+    heading, *rows = STORED[name].read_text().splitlines()
     at, no, written, behind, record = (heading.index(f' {column} ') + 1 for column in ('at', 'no', 'bytes', 'length', 'record'))
     for row in rows:
         packed, offset, number = row[record:], int(row[at:no], 16), int(row[no:written], 16)
@@ -204,7 +387,7 @@ def cases():
     yield 'no-records', ['origin 65535']
     yield 'one-record', ['origin 65535', AAM]
     # of the sample the instructions that are no branches: their bytes do not depend on the offset
-    plain = [f'record {packed} {answer}' for packed, is_branch, _, answer in sampled() if not is_branch and 'refused' not in answer]
+    plain = [f'record {packed} {answer}' for packed, is_branch, _, answer in stored('sample') if not is_branch and 'refused' not in answer]
     yield 'records-140', ['origin 4660', *plain[:140]]
     yield 'records-1000', ['origin 64000', *plain[-1000:]]
     yield 'wrap', ['origin 65531', AAM, 'JMP 0 | E9 00 00', 'JE 129 | 74 7F']
@@ -217,10 +400,20 @@ def cases():
     yield 'wrap-short', ['origin 65534', 'JMP short 65535 | EB FF', 'JMP short 0 | EB FE']
     yield 'wrap-short-not-to-0', ['origin 65534', 'JMP short 0 | refused 6']
     yield 'wrap-short-not-to-65536', ['origin 65534', 'JMP short 65536 | refused 5']
-    # the branches of the sample, each at its own offset
-    for k, (packed, is_branch, offset, answer) in enumerate(sampled()):
-        if is_branch:
-            yield f'branch-{k}', [f'origin {offset}', f'record {packed} {answer}']
+    yield 'forms', ['origin 256', *FORMS]
+    yield 'forms-branches', BRANCHES
+    # the longest text that a show can have
+    yield 'forms-longest', ['ADD word [BX+4660],4660 | 26 81 87 34 12 34 12 | form 81 /0 Mem:Word Imm:Unspecified -32768..65535', 'field prefix1 38'] * 1000
+    for question, refusals in QUESTIONS.items():
+        for k, lines in enumerate(failing(question, refusals)):
+            yield f'question-{question}-{k}', lines
+    for (question, later), refusals in FIRST_OF_TWO.items():
+        for k, lines in enumerate(failing(question, refusals)):
+            yield f'question-{question}-not-{later}-{k}', lines
+    # the stored records, each at its own offset
+    for name in STORED:
+        for k, (packed, _, offset, answer) in enumerate(stored(name)):
+            yield f'{name}-{k}', [f'origin {offset}', f'record {packed} {answer}']
 
 
 def stated(source):
@@ -231,7 +424,7 @@ def stated(source):
         if line.startswith('origin'):
             offset = int(line.split()[1])
         elif '|' in line and 'refused' not in line:
-            instruction, answer = (part.strip() for part in line.split('|'))
+            instruction, answer = (part.strip() for part in line.split('|')[:2])
             yield offset, instruction, bytes.fromhex(answer)
             offset += len(bytes.fromhex(answer))
 
@@ -266,23 +459,37 @@ def by_nasm(lines):
         return (path / 'a.bin').read_bytes()
 
 
+def folder_sources():
+    return {path.stem: path.read_text() for path in sorted(HERE.glob('*.txt'))}
+
+
+def shows():
+    """Name, file, listing and text with forms of each."""
+    sources = folder_sources()
+    for name, lines in cases():
+        assert name not in sources, name
+        sources[name] = '\n'.join(lines)
+    for name, source in sources.items():
+        yield name, *show(source)
+    # bench/'s thousand, whose listing has the Rust's bytes
+    packed, listing = (ROOT / 'bench/records.fsq').read_bytes(), (ROOT / 'bench/records.txt').read_text()
+    yield 'bench', packed, listing, forms.text(packed, listing)
+
+
 def main():
-    sources = {path.stem: path.read_text() for path in sorted(HERE.glob('*.txt'))}
     if sys.argv[1] == '--assemble':
-        for name, source in sources.items():
+        for name, source in folder_sources().items():
             lines = list(stated(source))
             written = b''.join(string for _, _, string in lines)
             for assembler, made in (('as', by_as(lines)), ('nasm', by_nasm(lines))):
                 print(name, f'as stated by {assembler}' if made == written else f'differs from {assembler}:\n{made.hex()}\n{written.hex()}')
         return
     folder = pathlib.Path(sys.argv[1])
-    for name, lines in cases():
-        assert name not in sources, name
-        sources[name] = '\n'.join(lines)
-    for name, source in sources.items():
-        packed, listing = show(source)
+    for name, packed, listing, with_forms in shows():
         (folder / f'{name}.fsq').write_bytes(packed)
         (folder / f'{name}.out').write_text(listing)
+        (folder / f'{name}.forms').write_text(with_forms)
 
 
-main()
+if __name__ == '__main__':
+    main()

@@ -27,6 +27,14 @@ keep : (z : ℤ) → ltZ z (pos 0) ≡ false → z ≡ pos (mag z)
 keep (pos n) t = refl
 keep (negsuc n) t = absurd (subst T t tt)
 
+abs-neg : (z : ℤ) → ltZ z (pos 0) ≡ true → mag z + 1 ≡ natAbs z
+abs-neg (pos n) t = absurd (omega (arith, ltb-true n 0 t))
+abs-neg (negsuc n) t = omega arith
+
+abs-pos : (z : ℤ) → ltZ z (pos 0) ≡ false → mag z ≡ natAbs z
+abs-pos (pos n) t = refl
+abs-pos (negsuc n) t = absurd (subst T t tt)
+
 mod-neg : (m : ℕ) (z : ℤ) → ltZ z (pos 0) ≡ true → m - 1 - mag z % m ≡ modZ m z
 mod-neg m (pos n) t = absurd (omega (arith, ltb-true n 0 t))
 mod-neg m (negsuc n) t = refl
@@ -57,6 +65,13 @@ module _ (z : ℤ) (f : SFits w32 z) (t : ltZ (toZ w32 (ofZ w32 z)) (pos 0) ≡ 
       × Fits w32 (natAbs (toZ w32 (ofZ w32 (negsuc 0 -ℤ toZ w32 (ofZ w32 z)))))
   flip-cast = rw flip-read (mag-cast z f)
 
+  -- and one more
+  pub flip-sum : Fits w32 (natAbs (toZ w32 (ofZ w32 (negsuc 0 -ℤ toZ w32 (ofZ w32 z)))) + 1)
+  flip-sum = rw flip-read (record { fits = omega (arith, f .sfits) })
+
+  pub flip-more : natAbs (toZ w32 (ofZ w32 (negsuc 0 -ℤ toZ w32 (ofZ w32 z)))) + 1 ≡ natAbs z
+  flip-more = rw flip-read (abs-neg z negative)
+
   pub low-negative : (m : ℕ) → m - 1 - natAbs (toZ w32 (ofZ w32 (negsuc 0 -ℤ toZ w32 (ofZ w32 z)))) % m ≡ modZ m z
   low-negative m = rw flip-read (mod-neg m z negative)
 
@@ -69,6 +84,9 @@ module _ (z : ℤ) (f : SFits w32 z) (t : ltZ (toZ w32 (ofZ w32 z)) (pos 0) ≡ 
 
   pub keep-cast : T (nonNeg (toZ w32 (ofZ w32 z))) × Fits w32 (natAbs (toZ w32 (ofZ w32 z)))
   keep-cast = rw keep-read (mag-cast z f)
+
+  pub keep-all : natAbs (toZ w32 (ofZ w32 z)) ≡ natAbs z
+  keep-all = rw keep-read (abs-pos z from-zero)
 
   pub low-from-zero : (m : ℕ) → natAbs (toZ w32 (ofZ w32 z)) % m ≡ modZ m z
   low-from-zero m = rw keep-read (mod-pos m z from-zero)

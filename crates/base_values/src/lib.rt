@@ -1,5 +1,6 @@
 // The limits of a value, what it leaves in a byte or a word, and the distances of branches: the casts and subtractions that 000 and 003 write in place.
 ghost use mathlib.Core.Path.{_≡_};
+ghost use lib.IntN.{natAbs};
 ghost use mathlib.Core.Bool.{true};
 ghost use Prim.Native.Nat.{_<_};
 ghost use lib.IntN.{pos, negsuc};
@@ -37,6 +38,17 @@ pub fn low_word(value: i32) -> u16
     } else {
         let n = value as u32;
         (n % 65536) as u16
+    }
+}
+
+// The value without its sign.
+pub fn magnitude(value: i32) -> u32
+    ensures { λ r. ⌜ r ≡ natAbs value ⌝ }
+{
+    if value < 0 {
+        (-1 - value) as u32 + 1
+    } else {
+        value as u32
     }
 }
 

@@ -32,8 +32,8 @@ use Rattle.encode_spec.specs.Answer.{First, all-yes, no, firstNo, writte
 use Rattle.encode_spec.proofs.Values.{false-true, both-true}
 use Rattle.encode_spec.proofs.Slots.{holds, Given, yes}
 pub use Rattle.encode_spec.proofs.ReadBack.{Reads}
-use Rattle.encode_spec.proofs.ReadBack.{reads-back}
-use Rattle.encode_spec.proofs.Meanings.{all-at}
+use Rattle.encode_spec.proofs.ReadBack.{ArrangedForm, reads-back}
+use Rattle.encode_spec.proofs.Meanings.{Leaf, all-at}
 use Rattle.encode_spec.proofs.Operations.{by-operation}
 
 -- ---- all questions answered yes
@@ -43,7 +43,7 @@ yesAt (q ∷ qs) zero = q .yes
 yesAt (q ∷ qs) (suc i) = yesAt qs i
 
 -- each of them
-every : (qs : List Asked) → firstNo qs ≡ all-yes → (i : ℕ) → yesAt qs i ≡ true
+pub every : (qs : List Asked) → firstNo qs ≡ all-yes → (i : ℕ) → yesAt qs i ≡ true
 every [] e i = refl
 every (q ∷ qs) e zero = yes (q .yes) (firstNo qs) q e .0
 every (q ∷ qs) e (suc i) = every qs (yes (q .yes) (firstNo qs) q e .1) i
@@ -63,7 +63,7 @@ parts (q ∷ qs) rs e =
     (rw (s .0) (t .0), t .1)
 
 -- an answer of bytes says that all got yes, and which bytes
-gives-bytes : (f : First) (s bs : List ℕ) → answered f s ≡ bytes bs → (f ≡ all-yes) × (s ≡ bs)
+pub gives-bytes : (f : First) (s bs : List ℕ) → answered f s ≡ bytes bs → (f ≡ all-yes) × (s ≡ bs)
 gives-bytes all-yes s bs e = (refl, cc)
 gives-bytes (no q) s bs e = let z : _≡_ {A = ℕ} 0 1 = cc in absurd (omega arith)
 
@@ -103,23 +103,22 @@ module _ (either-way : Bool) (s : OperandSize) (a : OperandData) (t : OperandSiz
   picked [] = tt
   picked (f ∷ fs) = tried f fs (choose either-way fs s a t b) _ _ refl refl (picked fs)
 
--- ---- an operation at an offset
-module _ (op : Operation) (off : ℕ) where
-  -- a form of the operation reads back
-  form-reads : off < 65536 → (a b : OperandData) (f : Form) → List·Memᴰ f (formsOf op) → Given (f .first) off a → Given (f .second) off b
-      → Reads off (canonical op (widthOf f) (holds (f .first) a) (holds (f .second) b)) (layout f off a b)
-  unfolding formsOf
-  form-reads h a b f m ga gb =
-      let l = all-at (by-operation op .leaves) m in
-      subst (λ (o : Operation). Reads off (canonical o (widthOf f) (holds (f .first) a) (holds (f .second) b)) (layout f off a b)) (l .operation-is)
-      (reads-back f (kept (λ f. sameOperation (f .operation) op) forms m) (l .arranged) off h a b ga gb)
+-- ---- the form chosen: one of the table and of the operation, with x in its first slot and y in its second
+pub record Chosen (insn : InstructionData) (off : ℕ) (f : Form) (x y : OperandData) : Type 0 where
+  pub listed : List·Memᴰ f forms
+  pub of-operation : List·Memᴰ f (formsOf (insn .operation))
+  pub counted : countBy (rule (groupOf (insn .operation)) .special) (insn .«num_opers») f ≡ true
+  pub first-takes : takes (f .first) (sizeIn (groupOf (insn .operation)) (dst insn) (src insn) x) x ≡ true
+  pub second-takes : takes (f .second) (sizeIn (groupOf (insn .operation)) (dst insn) (src insn) y) y ≡ true
+  pub first : Given (f .first) off x
+  pub second : Given (f .second) off y
 
-  given : (s : Slot) (o : OperandData) (z : OperandSize) → takes s z o ≡ true → wellFormed o ≡ true
-      → firstNo (ofSlot (groupOf op) s off o) ≡ all-yes → Given s off o
-  given s o z t w q = record { size = z; taken = t; formed = w; group = groupOf op; asked = q }
+abbrev pub ChosenAs : InstructionData → ℕ → Choice → Type 0
+ChosenAs insn off none = ⊥
+ChosenAs insn off (straight f) = Chosen insn off f (dst insn) (src insn)
+ChosenAs insn off (crossed f) = Chosen insn off f (src insn) (dst insn) × (eitherWay (groupOf (insn .operation)) (dst insn) (src insn) ≡ true)
 
--- ---- the theorem
-module _ (insn : InstructionData) (off : ℕ) (h : off < 65536) where
+module _ (insn : InstructionData) (off : ℕ) where
   abbrev op : Operation
   op = insn .operation
 
@@ -136,33 +135,74 @@ module _ (insn : InstructionData) (off : ℕ) (h : off < 65536) where
   abbrev counted-forms : List Form
   counted-forms = keep (countBy (rule g .special) (insn .«num_opers»)) (formsOf op)
 
-  listed-of : {f : Form} → List·Memᴰ f counted-forms → List·Memᴰ f (formsOf op)
-  listed-of m = kept (countBy (rule g .special) (insn .«num_opers»)) (formsOf op) m
+  given : (s : Slot) (o : OperandData) (z : OperandSize) → takes s z o ≡ true → wellFormed o ≡ true → firstNo (ofSlot g s off o) ≡ all-yes → Given s off o
+  given s o z t w q = record { size = z; taken = t; formed = w; group = g; asked = q }
 
-  counted-of : {f : Form} → List·Memᴰ f counted-forms → countBy (rule g .special) (insn .«num_opers») f ≡ true
-  counted-of m = passed (countBy (rule g .special) (insn .«num_opers»)) (formsOf op) m
+  -- a form taken, whose questions get yes
+  chosen-by : (f : Form) (x y : OperandData) → Taken counted-forms f (sizeIn g a b x) x (sizeIn g a b y) y → wellFormed x ≡ true → wellFormed y ≡ true
+      → firstNo (ofSlot g (f .first) off x ++ ofSlot g (f .second) off y) ≡ all-yes → Chosen insn off f x y
+  unfolding formsOf
+  chosen-by f x y p wx wy q =
+      let of-it = kept (countBy (rule g .special) (insn .«num_opers»)) (formsOf op) (p .listed) in
+      let (qx, qy) = parts (ofSlot g (f .first) off x) (ofSlot g (f .second) off y) q in
+      record {
+        listed = kept (λ f. sameOperation (f .operation) op) forms of-it;
+        of-operation = of-it;
+        counted = passed (countBy (rule g .special) (insn .«num_opers»)) (formsOf op) (p .listed);
+        first-takes = p .first;
+        second-takes = p .second;
+        first = given (f .first) x _ (p .first) wx qx;
+        second = given (f .second) y _ (p .second) wy qy;
+      }
 
-  -- where the form is chosen with the operands as they stand, and where they are crossed
-  chosen-reads : (c : Choice) → Picked (eitherWay g a b) counted-forms (sizeIn g a b a) a (sizeIn g a b b) b c → wellFormed a ≡ true → wellFormed b ≡ true
-      → isForm c ≡ true → firstNo (formAsked g c off a b) ≡ all-yes → Reads off (meaning insn) (written c off a b)
-  chosen-reads none p wa wb e q = false-true e
-  chosen-reads (straight f) p wa wb e q =
-      let y = parts (ofSlot g (f .first) off a) (ofSlot g (f .second) off b) q in
-      subst (λ (m : Instruction). Reads off m (layout f off a b)) (all-at (by-operation op .leaves) (listed-of (p .listed)) .means (insn .«num_opers») a b (counted-of (p .listed)) (p .first) (p .second))
-      (form-reads op off h a b f (listed-of (p .listed)) (given op off (f .first) a _ (p .first) wa (y .0))
-      (given op off (f .second) b _ (p .second) wb (y .1)))
-  chosen-reads (crossed f) p wa wb e q =
-      let y = parts (ofSlot g (f .first) off b) (ofSlot g (f .second) off a) q in
-      subst (λ (m : Instruction). Reads off m (layout f off b a))
-      (all-at (by-operation op .crosses) (listed-of (p .0 .listed)) .crossed (insn .«num_opers») a b (p .1) (p .0 .first) (p .0 .second))
-      (form-reads op off h b a f (listed-of (p .0 .listed)) (given op off (f .first) b _ (p .0 .first) wb (y .0))
-      (given op off (f .second) a _ (p .0 .second) wa (y .1)))
+  chosen-as : (c : Choice) → Picked (eitherWay g a b) counted-forms (sizeIn g a b a) a (sizeIn g a b b) b c → wellFormed a ≡ true → wellFormed b ≡ true
+      → isForm c ≡ true → firstNo (formAsked g c off a b) ≡ all-yes → ChosenAs insn off c
+  chosen-as none p wa wb e q = false-true e
+  chosen-as (straight f) p wa wb e q = chosen-by f a b p wa wb q
+  chosen-as (crossed f) p wa wb e q = (chosen-by f b a (p .0) wb wa q, p .1)
 
-  all-yes-reads : firstNo (questions insn off) ≡ all-yes → Reads off (meaning insn) (written (chosen insn) off a b)
+  -- where all questions get yes there is a form
+  pub chosen-is : firstNo (questions insn off) ≡ all-yes → ChosenAs insn off (chosen insn)
   unfolding questions
-  all-yes-reads e =
+  chosen-is e =
       let qs = questions insn off in
-      chosen-reads (chosen insn) (picked (eitherWay g a b) (sizeIn g a b a) a (sizeIn g a b b) b counted-forms) (every qs e 1) (every qs e 2) (every qs e 7) (later qs e 8)
+      chosen-as (chosen insn) (picked (eitherWay g a b) (sizeIn g a b a) a (sizeIn g a b b) b counted-forms) (every qs e 1) (every qs e 2) (every qs e 7) (later qs e 8)
+
+  -- what is known of a form of the operation
+  leaf : {f : Form} → List·Memᴰ f (formsOf op) → Leaf g op f
+  unfolding formsOf
+  leaf m = all-at (by-operation op .leaves) m
+
+  module _ (f : Form) (x y : OperandData) (k : Chosen insn off f x y) where
+    pub arranged-is : ArrangedForm f
+    arranged-is = leaf (k .of-operation) .arranged
+
+    pub operation-is : f .operation ≡ op
+    operation-is = leaf (k .of-operation) .operation-is
+
+  -- ---- its bytes read back
+  module _ (h : off < 65536) where
+    form-reads : (f : Form) (x y : OperandData) → Chosen insn off f x y
+        → Reads off (canonical op (widthOf f) (holds (f .first) x) (holds (f .second) y)) (layout f off x y)
+    form-reads f x y k =
+        subst (λ (o : Operation). Reads off (canonical o (widthOf f) (holds (f .first) x) (holds (f .second) y)) (layout f off x y)) (operation-is f x y k)
+        (reads-back f (k .listed) (arranged-is f x y k) off h x y (k .first) (k .second))
+
+    crossed-means : (f : Form) → Chosen insn off f b a → eitherWay g a b ≡ true → canonical op (widthOf f) (holds (f .first) b) (holds (f .second) a) ≡ meaning insn
+    unfolding formsOf
+    crossed-means f k w = all-at (by-operation op .crosses) (k .of-operation) .crossed (insn .«num_opers») a b w (k .first-takes) (k .second-takes)
+
+    -- as what the record means, where the form has the operands as they stand, and where they are crossed
+    choice-reads : (c : Choice) → ChosenAs insn off c → Reads off (meaning insn) (written c off a b)
+    choice-reads none k = absurd k
+    choice-reads (straight f) k =
+        subst (λ (m : Instruction). Reads off m (layout f off a b)) (leaf (k .of-operation) .means (insn .«num_opers») a b (k .counted) (k .first-takes) (k .second-takes))
+        (form-reads f a b k)
+    choice-reads (crossed f) (k, w) =
+        subst (λ (m : Instruction). Reads off m (layout f off b a)) (crossed-means f k w) (form-reads f b a k)
+
+    pub all-yes-reads : firstNo (questions insn off) ≡ all-yes → Reads off (meaning insn) (written (chosen insn) off a b)
+    all-yes-reads e = choice-reads (chosen insn) (chosen-is e)
 
 -- what encode accepts at an offset below 65,536 reads as what the record means, to the last byte, in 1 to 7 bytes
 pub accepted-reads : (insn : InstructionData) (off : ℕ) → off < 65536 → (bs : List ℕ) → answer insn off ≡ bytes bs → Reads off (meaning insn) bs

@@ -72,7 +72,7 @@ pub record Begins (p c x : ℕ) (f : Form) : Type 0 where
   pub memory : either (eqb p 0) (mayNameMemory f) ≡ true
 
 module _ (off p c x : ℕ) (t : List ℕ) (f : Form) (b : Begins p c x f) where
-  among : List·Memᴰ f (startingWith c)
+  pub among : List·Memᴰ f (startingWith c)
   unfolding startingWith
   among = keeps (hasOpcode c) forms (b .opcode) (b .listed)
 
@@ -83,18 +83,22 @@ module _ (off p c x : ℕ) (t : List ℕ) (f : Form) (b : Begins p c x f) where
       (λ l. same-at-90 off p z t ∙ ap (λ (g : Form). readForm off p 0x90 z t g) (sym (List·Memᴰ·eq-of-singleton l)))
       (List·Memᴰ·cases-cons m)
 
-  -- the form that fits is read, whatever stands behind
-  read-second : (m : List·Memᴰ f (startingWith c)) (i : Bool) → eqb c 0x90 ≡ i
-      → readFirst off p c x t (fitting x (startingWith c)) ≡ readForm off p c x t f
-  read-second m true e = rw (eqb-true c 0x90 e, at-90) (either-90 (rw (ap startingWith (eqb-true c 0x90 e) ∙ at-90) at m) x)
-  read-second m false e =
-      rw (only-one (fitting x (startingWith c)) {f = f} (keeps (fits x) (startingWith c) (b .second) m)
-      (unambiguous c x (b .c-byte) (b .x-byte) (eqb-false c 0x90 e)))
+  -- but for 90 no other form goes on with the second byte, or without one
+  pub fits-alone : (c ≡ 0x90 → ⊥) → (i : Bool) → hasSecond (f .extension) ≡ i → pick i (fitting x (startingWith c)) (startingWith c) ≡ f ∷ []
+  fits-alone n true e =
+      only-one (fitting x (startingWith c)) {f = f} (keeps (fits x) (startingWith c) (b .second) among) (unambiguous c x (b .c-byte) (b .x-byte) n)
+  fits-alone n false e = only-one (startingWith c) {f = f} among (alone c (b .c-byte) n (sym (second-agrees c (b .c-byte) {f = f} among) ∙ e))
 
-  read-first : (m : List·Memᴰ f (startingWith c)) (i : Bool) → eqb c 0x90 ≡ i → some (λ f. hasSecond (f .extension)) (startingWith c) ≡ false
+  -- the form that fits is read, whatever stands behind
+  read-second : (m : List·Memᴰ f (startingWith c)) (i : Bool) → eqb c 0x90 ≡ i → hasSecond (f .extension) ≡ true
+      → readFirst off p c x t (fitting x (startingWith c)) ≡ readForm off p c x t f
+  read-second m true e z = rw (eqb-true c 0x90 e, at-90) (either-90 (rw (ap startingWith (eqb-true c 0x90 e) ∙ at-90) at m) x)
+  read-second m false e z = rw (fits-alone (eqb-false c 0x90 e) true z)
+
+  read-first : (m : List·Memᴰ f (startingWith c)) (i : Bool) → eqb c 0x90 ≡ i → hasSecond (f .extension) ≡ false
       → readFirst off p c 0 t (startingWith c) ≡ readForm off p c 0 t f
   read-first m true e z = rw (eqb-true c 0x90 e, at-90) (either-90 (rw (ap startingWith (eqb-true c 0x90 e) ∙ at-90) at m) 0)
-  read-first m false e z = rw (only-one (startingWith c) {f = f} m (alone c (b .c-byte) (eqb-false c 0x90 e) z))
+  read-first m false e z = rw (fits-alone (eqb-false c 0x90 e) false z)
 
   -- behind the prefix
   read-opcode : (hasSecond (f .extension) ≡ false → x ≡ 0) → readOpcode off p (c ∷ (secondBytes (f .extension) x ++ t)) ≡ readForm off p c x t f
@@ -106,11 +110,11 @@ module _ (off p c x : ℕ) (t : List ℕ) (f : Form) (b : Begins p c x f) where
       go : (i : Bool) → hasSecond (f .extension) ≡ i
           → pick i (readSecond off p c (startingWith c) (pick i (x ∷ []) [] ++ t)) (readFirst off p c 0 (pick i (x ∷ []) [] ++ t) (startingWith c))
           ≡ readForm off p c x t f
-      go true e = read-second among (eqb c 0x90) refl
-      go false e = rw (z e) (read-first among (eqb c 0x90) refl (sym (second-agrees c (b .c-byte) {f = f} among) ∙ e))
+      go true e = read-second among (eqb c 0x90) refl e
+      go false e = rw (z e) (read-first among (eqb c 0x90) refl e)
 
   -- a first byte of a form is no prefix
-  no-prefix-byte : (i : Bool) → prefix c ≡ i → prefix c ≡ false
+  pub no-prefix-byte : (i : Bool) → prefix c ≡ i → prefix c ≡ false
   no-prefix-byte true e = absurd (List·Memᴰ·not-nil (rw (no-prefix c e) at among))
   no-prefix-byte false e = e
 

@@ -43,7 +43,7 @@ append (q ∷ qs) rs h k = go (gives (q .number) (reportOf (q .refusal) .number)
     go false f e = e
 
 -- the number does not hang on the span
-abbrev numberFor : Why → ℕ
+abbrev pub numberFor : Why → ℕ
 numberFor W.InvalidOperands = 1
 numberFor W.OperandSizeNotSpecified = 2
 numberFor W.OperandSizesDoNotMatch = 3
@@ -70,7 +70,7 @@ stated-is-3 (first-states why at) a b = refl
 stated-is-3 first-is-word a b = refl
 
 -- question 3 has refusal 2 or 4 where the first operand is asked
-abbrev sizes : Sizing → Bool
+abbrev pub sizes : Sizing → Bool
 sizes unasked = true
 sizes either-states = true
 sizes (first-states why at) = gives 3 (numberFor why)
@@ -89,14 +89,14 @@ one-of true r s h k = h
 one-of false r s h k = k
 
 -- every group
-record Given (g : Group) : Type 0 where
+pub record Given (g : Group) : Type 0 where
   pub sized : sizes (rule g .sizing) ≡ true
   pub refused : (a b : OperandData) → gives 5 (numberFor (rule g .without-form a b .why)) ≡ true
 
 ordinarily : {g : Group} → sizes (rule g .sizing) ≡ true → ((a b : OperandData) → gives 5 (numberFor (rule g .without-form a b .why)) ≡ true) → Given g
 ordinarily s r = record { sized = s; refused = r }
 
-given : (g : Group) → Given g
+pub given : (g : Group) → Given g
 given G.Arithmetic = ordinarily refl (λ a b. refl)
 given G.Unary = ordinarily refl (λ a b. refl)
 given G.Mov = ordinarily refl (λ a b. refl)

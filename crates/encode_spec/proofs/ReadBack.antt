@@ -36,6 +36,16 @@ pub record Reads (off : ℕ) (m : Instruction) (bs : List ℕ) : Type 0 where
   pub short : length bs ≤ 7
   pub are-bytes : Bytes bs
 
+-- bs begins with a prefix or none, and the first and second byte of the form f
+pub record Begun (f : Form) (bs : List ℕ) : Type 0 where
+  pub p : ℕ
+  pub c : ℕ
+  pub x : ℕ
+  pub rest : List ℕ
+  pub in-order : bs ≡ prefixBytes p ++ (c ∷ (secondBytes (f .extension) x ++ rest))
+  pub begins : Begins p c x f
+  pub prefixed : isPrefix p ≡ true
+
 -- ---- of every form's slots one at most takes immediate bytes
 abbrev oneImmediate : Form → Bool
 oneImmediate f = either (eqb (about (f .first) .takes) 0) (eqb (about (f .second) .takes) 0)
@@ -256,6 +266,15 @@ module _ (f : Form) (m : List·Memᴰ f forms) (r : ArrangedForm f) (off : ℕ) 
   bytes-in-order =
       head-bytes (pl .p) c x (f .extension) t (prefix-byte (pl .p) (pl .names .prefixed)) (pl .c-byte) (pl .x-byte)
       (bytes-append (pl .memory) (ia ++ ib) (pl .names .are-bytes) (bytes-append ia ib (first-by .are-bytes) (second-by .are-bytes)))
+
+  pub begun : Begun f (layout f off a b)
+  begun = record { p = pl .p; c = c; x = x; rest = t; in-order = laid-out; begins = begins; prefixed = pl .names .prefixed }
+
+  -- its first byte is the opcode with what the operands add to it
+  pub begun-opcode : begun .c ≡ f .opcode + part (f .first) 0 a .opcode + part (f .second) 0 b .opcode
+  unfolding begun
+  begun-opcode =
+      rw (ap (λ (q : Part). q .opcode) (by-field (f .first) 0 a .part-is), ap (λ (q : Part). q .opcode) (by-field (f .second) 0 b .part-is)) refl
 
   -- the bytes of the form read back
   pub reads-back : Reads off held (layout f off a b)

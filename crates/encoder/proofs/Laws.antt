@@ -4,11 +4,10 @@ use mathlib.Core.Path.{_≡_, refl, sym, ap, _∙_}
 use mathlib.Core.Bool.{Bool, true, false}
 use mathlib.Core.List.{List, [], _∷_, _++_, append-assoc, append-nil}
 use Prim.Native.Nat.{ℕ, zero, suc, _+_, _<_, _≤_}
-use native.Mathlib.Nat.{le-of-suc-le-suc, not-suc-le-zero}
 use native.Mathlib.Numerals.{add-one}
 use native.Mathlib.Omega.{arith}
 use lib.Dec.{leb}
-use lib.ListN.{length, take, drop, set, getD, length-set, length-append}
+use lib.ListN.{length, take, drop, length-set, length-append}
 use lib.Seq.{take-suc-set}
 use borrow.Author.Tests.{lt-ltb}
 use Rattle.mrc_compiler.specs.declared.ast.Span.{Span}
@@ -52,14 +51,6 @@ module _ (insn : InstructionData) (off : ℕ) where
   planned n a b = sym (tied insn off) ∙ rw (n, a, b)
 
 -- ---- a run and the lent slice
-
--- one byte more copied
-pub copied-more : (bs s : List ℕ) (i : ℕ) → i < length bs → i < length s → set (take i bs ++ drop i s) i (getD bs i 0) ≡ take (suc i) bs ++ drop (suc i) s
-copied-more [] s i hb hs = absurd (not-suc-le-zero hb)
-copied-more (b ∷ bs) [] i hb hs = absurd (not-suc-le-zero hs)
-copied-more (b ∷ bs) (x ∷ s) zero hb hs = refl
-copied-more (b ∷ bs) (x ∷ s) (suc i) hb hs = ap (λ (l : List ℕ). b ∷ l) (copied-more bs s i (le-of-suc-le-suc hb) (le-of-suc-le-suc hs))
-
 -- what a run holds
 pub record Holds (run : ByteRun) (bs : List ℕ) : Type 0 where
   pub shown : take (run .len) (run .bytes) ≡ bs
@@ -103,6 +94,10 @@ module _ (d : Emitted) where
   refused-by (refused x) e hd nd = cc
   refused-by (bytes bs) e hd nd = let z : _≡_ {A = ℕ} 0 1 = cc in absurd (omega arith)
 
+  bytes-by : (a : Answer) → d ≡ emitted emptyRun a → d .refusal ≡ R.None → (bs : List ℕ) × (a ≡ bytes bs)
+  bytes-by (refused x) hd nd = let z : _≡_ {A = ℕ} 0 1 = cc in absurd (omega arith)
+  bytes-by (bytes bs) hd nd = (bs, refl)
+
   length-by : (a : Answer) → Short a → d ≡ emitted emptyRun a → d .refusal ≡ R.None → N.Length (d .run .len) ≡ lengthOf a
   length-by (refused e) sh hd nd = let z : _≡_ {A = ℕ} 0 1 = cc in absurd (omega arith)
   length-by (bytes bs) sh hd nd = rw (hd, all-holds bs sh .count)
@@ -129,6 +124,9 @@ module _ (insn : InstructionData) (off : ℕ) (h : off < 65536) (d : Emitted) (h
 
   pub is-refused : (e : EncodeError) → d .refusal ≡ R.Because e → answer insn off ≡ refused e
   is-refused e nd = refused-by d (answer insn off) e hd nd
+
+  pub is-bytes : d .refusal ≡ R.None → (bs : List ℕ) × (answer insn off ≡ bytes bs)
+  is-bytes nd = bytes-by d (answer insn off) hd nd
 
   pub length-ok : d .refusal ≡ R.None → N.Length (d .run .len) ≡ lengthOf (answer insn off)
   length-ok nd = length-by d (answer insn off) short-answer hd nd

@@ -2,3 +2,4 @@ pub mod EncodeRecord
 pub mod ListRecord
 pub mod LoadShow
 pub mod ReadBytes
+pub mod FormRecord

@@ -305,7 +305,7 @@ fn prefix_of(b: u8) -> u8
 }
 
 // Where the opcode stands behind a first byte.
-fn opcode_start(b: u8) -> usize
+pub fn opcode_start(b: u8) -> usize
     ensures { λ r. ⌜ r ≡ pick (prefix b) 1 0 ⌝ }
     ensures small { λ r. ⌜ r ≤ 1 ⌝ }
 {

@@ -27,7 +27,7 @@ module _ (file : List ℕ) (origin n : ℕ) (t : isAll (walk file origin n) ≡ 
   abbrev w : ℕ → List ℕ
   w k = bytesIn (walk file origin k)
 
-  upto : (k : ℕ) → k ≤ n → Upto file origin k (length (w k))
+  pub upto : (k : ℕ) → k ≤ n → Upto file origin k (length (w k))
   upto zero h = record { whole = upto-start file origin .whole; ends = refl }
   upto (suc k) h =
       let u = step-all file origin k (length (w k)) (upto k (omega arith)) n t (omega arith) .upto in

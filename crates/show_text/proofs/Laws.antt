@@ -1,15 +1,12 @@
--- The laws that the text rests on: a line filled byte by byte, how long lines are, and the lines of the records behind each other.
+-- The laws that the texts rest on: how long lines are, and the texts of the records behind each other.
 -- Assumes nothing.
-use mathlib.Core.Path.{_≡_, refl, sym, _∙_}
+use mathlib.Core.Path.{_≡_, refl}
 use mathlib.Core.Bool.{Bool, true, false}
-use mathlib.Core.List.{List, [], _∷_, _++_, append-assoc, append-nil}
-use Prim.Native.Nat.{ℕ, zero, suc, _+_, _*_, _-_, _/_, _%_, _<_, _≤_}
+use mathlib.Core.List.{List, [], _∷_, _++_}
+use Prim.Native.Nat.{ℕ, zero, suc, _+_, _*_, _-_, _<_, _≤_}
 use native.Mathlib.Numerals.{add-one}
 use native.Mathlib.Omega.{arith}
-use lib.Dec.{leb}
-use lib.ListN.{length, take, drop, getD, length-set, length-append}
-use lib.Seq.{take-suc, take-suc-set}
-use borrow.Author.Tests.{lt-ltb}
+use lib.ListN.{length, take, drop, length-append}
 use borrow.Rule.Slice.PartMut.{putMid}
 use Rattle.mrc_compiler.specs.Choose.{pick}
 use Rattle.encode_spec.specs.Answer.{Answer, bytes, refused}
@@ -20,67 +17,21 @@ use Rattle.encode_codes.specs.Emit.{emitted}
 use Rattle.show_file.specs.declared.Header.{Header}
 use Rattle.show_file.specs.declared.LoadError.{LoadError}
 use Rattle.show_file.specs.declared.LoadError.the-variants as E
+use Rattle.show_file.specs.Show.{mostRecords, header, insnAt}
 use Rattle.show_file.specs.Refusals.{numberOf}
-use Rattle.show_load.specs.Loading.{offsetBehind, answerAt, bytesOf, walk, bytesIn, isAll}
+use Rattle.show_load.specs.declared.Loaded.the-variants as L
+use Rattle.show_load.specs.Loading.{offsetBehind, answerAt, bytesOf, walk, bytesIn, isAll, accepted}
 use Rattle.show_load.proofs.Laws.{Upto, upto-start, ran, step-all, answer-at-short, Front, front-start, front-next, lent}
-use Rattle.show_text.specs.declared.Line.{Line}
-use Rattle.show_text.specs.Text.{hexByte, hexWord, hexBytes, digitFrom, decimal, firstLine, lineOf, recordOf, refusedLine, blank, lineFeed, recordLine, linesOf, mostLine}
-use Rattle.show_text.specs.Steps.{emptyLine, pushed, appended}
-
--- ---- a line grows at its end
-appended-append : (line : Line) (xs ys : List ℕ) → appended line (xs ++ ys) ≡ appended (appended line xs) ys
-appended-append line [] ys = refl
-appended-append line (x ∷ xs) ys = appended-append (pushed line x) xs ys
-
--- some bytes, then others
-pub then : {next r : Line} (line : Line) (xs ys : List ℕ) → next ≡ appended line xs → r ≡ appended next ys → r ≡ appended line (xs ++ ys)
-then line xs ys h q = rw (appended-append line xs ys, ← h) q
-
--- one byte, then others
-pub byte : {next r : Line} (line : Line) (b : ℕ) (ys : List ℕ) → next ≡ pushed line b → r ≡ appended next ys → r ≡ appended line (b ∷ ys)
-byte line b ys h q = rw (← h) q
-
--- one byte more of a text
-pub text-more : (line so-far : Line) (t : List ℕ) (i : ℕ) → i < length t → so-far ≡ appended line (take i t)
-    → pushed so-far (getD t i 0) ≡ appended line (take (i + 1) t)
-text-more line so-far t i h e =
-    rw (add-one i, take-suc t i 0 h, appended-append line (take i t) (getD t i 0 ∷ []), ← e) refl
-
-hex-append : (xs ys : List ℕ) → hexBytes (xs ++ ys) ≡ hexBytes xs ++ hexBytes ys
-hex-append [] ys = refl
-hex-append (x ∷ xs) ys = rw (hex-append xs ys) (sym (append-assoc (hexByte x) (hexBytes xs) (hexBytes ys)))
-
--- one byte more of a run
-pub run-more : {next : Line} (line so-far : Line) (bs : List ℕ) (i : ℕ) → i < length bs → so-far ≡ appended line (hexBytes (take i bs))
-    → next ≡ appended so-far (hexByte (getD bs i 0)) → next ≡ appended line (hexBytes (take (i + 1) bs))
-run-more line so-far bs i h e q =
-    rw (add-one i, take-suc bs i 0 h, hex-append (take i bs) (getD bs i 0 ∷ []), append-nil (hexByte (getD bs i 0)))
-    (then line (hexBytes (take i bs)) (hexByte (getD bs i 0)) e q)
-
--- ---- what a line holds
-pub record Holds (line : Line) (bs : List ℕ) : Type 0 where
-  pub shown : take (line .len) (line .bytes) ≡ bs
-  pub count : line .len ≡ length bs
-  pub whole : length (line .bytes) ≡ mostLine
-
-push-holds : (line : Line) (bs : List ℕ) (b : ℕ) → Holds line bs → length bs < mostLine → Holds (pushed line b) (bs ++ (b ∷ []))
-push-holds line bs b h less =
-    let room : line .len < mostLine = omega (arith, h .count) in
-    rw (lt-ltb (line .len) mostLine room)
-    (record {
-      shown = rw (add-one (line .len), take-suc-set (line .bytes) (line .len) b (omega (arith, h .whole)), h .shown);
-      count = omega (arith, h .count, length-append bs (b ∷ []));
-      whole = length-set (line .bytes) (line .len) b ∙ h .whole;
-    })
-
-appended-holds : (line : Line) (bs cs : List ℕ) → Holds line bs → length bs + length cs ≤ mostLine → Holds (appended line cs) (bs ++ cs)
-appended-holds line bs [] h less = rw (append-nil bs) h
-appended-holds line bs (c ∷ cs) h less =
-    rw (← (append-assoc bs (c ∷ []) cs))
-    (appended-holds (pushed line c) (bs ++ (c ∷ [])) cs (push-holds line bs c h (omega arith)) (omega (arith, length-append bs (c ∷ []))))
-
-line-holds : (line : Line) (bs : List ℕ) → length bs ≤ mostLine → line ≡ appended emptyLine bs → Holds line bs
-line-holds line bs less e = rw e (appended-holds emptyLine [] bs (record { shown = refl; count = refl; whole = refl }) (omega arith))
+use Rattle.text_line.specs.declared.Line.{Line}
+use Rattle.text_line.specs.Numbers.{blank, lineFeed, hexWord, hexBytes, decimal}
+use Rattle.text_line.specs.Steps.{lineLength, emptyLine, pushed, appended}
+use Rattle.text_line.proofs.Laws.{then, byte, Holds, line-holds, hex-word-length, hex-bytes-length, decimal-length}
+use Rattle.encode_form.specs.Ground.{ground}
+use Rattle.text_form.specs.Lines.{mostGround}
+use Rattle.text_form.proofs.Laws.{ground-length}
+use Rattle.show_text.specs.Text.{firstLine, lineOf, recordOf, refusedLine, recordLine, groundAt, recordText, linesOf, refusedGround, mostLine, mostRecord}
+use Rattle.show_text.specs.Forms.{formAt, questionOf}
+use Rattle.show_text.proofs.Grounds.{ground-accepted, ground-refused}
 
 -- ---- the lines, part by part
 pub line-made : {e o a n b s r : Line} (offset : ℕ) (bs : List ℕ) (size : ℕ) → size ≡ length bs
@@ -124,36 +75,6 @@ refused-made {e} {w} {n} {a} {k} {r} x number hx he hw hn ha hk hr =
     (then a (recordOf x) end hk hr)))
 
 -- ---- how long lines are
-hex-byte-length : (b : ℕ) → length (hexByte b) ≡ 2
-unfolding hexByte
-hex-byte-length b = refl
-
-hex-word-length : (w : ℕ) → length (hexWord w) ≡ 4
-unfolding hexWord
-hex-word-length w = length-append (hexByte (w / 256)) (hexByte (w % 256)) ∙ rw (hex-byte-length (w / 256), hex-byte-length (w % 256)) refl
-
-hex-bytes-length : (bs : List ℕ) → length (hexBytes bs) ≡ 2 * length bs
-hex-bytes-length [] = refl
-hex-bytes-length (b ∷ bs) = rw (length-append (hexByte b) (hexBytes bs), hex-byte-length b, hex-bytes-length bs) (omega arith)
-
-digit-length : (place n : ℕ) → length (digitFrom place n) ≤ 1
-unfolding digitFrom
-digit-length place n = go (leb place n)
-  where
-    go : (t : Bool) → length (pick t ((0x30 + n / place % 10) ∷ []) []) ≤ 1
-    go true = omega arith
-    go false = omega arith
-
-decimal-length : (n : ℕ) → length (decimal n) ≤ 5
-unfolding decimal
-decimal-length n =
-    let a = digit-length 10000 n in
-    let b = digit-length 1000 n in
-    let c = digit-length 100 n in
-    let d = digit-length 10 n in
-    rw (length-append (digitFrom 10000 n), length-append (digitFrom 1000 n), length-append (digitFrom 100 n), length-append (digitFrom 10 n))
-    (omega arith)
-
 record-length : (e : LoadError) → length (recordOf e) ≤ 5
 record-length E.NoMark = omega arith
 record-length E.WrongVersion = omega arith
@@ -185,76 +106,133 @@ line-length offset bs h =
     rw (length-append (hexWord offset), length-append (decimal (length bs)), length-append (hexBytes bs)) (omega arith)
 
 pub first-holds : (line : Line) (h : Header) → line ≡ appended emptyLine (firstLine h) → Holds line (firstLine h)
-first-holds line h e = line-holds line (firstLine h) (first-length h) e
+first-holds line h e = let l = first-length h in line-holds line (firstLine h) (omega arith) e
 
-pub refused-holds : (line : Line) (x : LoadError) → line ≡ appended emptyLine (refusedLine x) → Holds line (refusedLine x)
-refused-holds line x e = line-holds line (refusedLine x) (refused-length x) e
+-- ---- the refusal, with its ground
+ground-at-length : (file : List ℕ) (origin k : ℕ) → length (groundAt file origin k) ≤ mostGround
+unfolding groundAt
+ground-at-length file origin k =
+    ground-length (ground (insnAt file k) (offsetBehind origin (length (bytesIn (walk file origin k))))) (insnAt file k)
 
--- a record has at most seven bytes
-record-short : (file : List ℕ) (origin k : ℕ) → length (recordLine file origin k) ≤ mostLine
-unfolding recordLine
-record-short file origin k =
+refused-ground-length : (file : List ℕ) (e : LoadError) → length (refusedGround file e) ≤ mostGround
+refused-ground-length file E.NoMark = omega arith
+refused-ground-length file E.WrongVersion = omega arith
+refused-ground-length file E.WrongLength = omega arith
+refused-ground-length file (E.UnknownCode k) = omega arith
+refused-ground-length file (E.Record k e) = ground-at-length file (header file .origin) k
+
+pick-length : (forms : Bool) (bs : List ℕ) → length bs ≤ mostGround → length (pick forms bs []) ≤ pick forms mostGround 0
+pick-length true bs h = h
+pick-length false bs h = omega arith
+
+pub pick-most : (forms : Bool) → pick forms mostGround 0 ≤ mostGround
+pick-most true = omega arith
+pick-most false = omega arith
+
+abbrev refusedText : Bool → List ℕ → LoadError → List ℕ
+refusedText forms file e = refusedLine e ++ pick forms (refusedGround file e) []
+
+pub refused-text-length : (forms : Bool) (file : List ℕ) (e : LoadError) → length (refusedText forms file e) ≤ mostRecord forms
+refused-text-length forms file e =
+    let a = refused-length e in
+    let b = pick-length forms (refusedGround file e) (refused-ground-length file e) in
+    rw (length-append (refusedLine e) (pick forms (refusedGround file e) [])) (omega arith)
+
+-- by what the code appends
+pub refused-holds : (forms : Bool) (file : List ℕ) (x : LoadError) → accepted file ≡ L.Refused x → {line text : Line} → line ≡ appended emptyLine (refusedLine x)
+    → text ≡ appended line (pick forms (questionOf file x) []) → Holds text (refusedText forms file x)
+refused-holds forms file x q {line} {text} hl ht =
+    let l = refused-text-length forms file x in
+    let m = pick-most forms in
+    line-holds text (refusedText forms file x) (omega arith)
+    (then emptyLine (refusedLine x) (pick forms (refusedGround file x) []) hl (rw (← (ground-refused file x q)) at ht))
+
+-- ---- the text of a record, which has at most seven bytes
+record-short : (forms : Bool) (file : List ℕ) (origin k : ℕ) → length (recordText forms file origin k) ≤ mostRecord forms
+unfolding recordText recordLine
+record-short forms file origin k =
     let at = length (bytesIn (walk file origin k)) in
-    line-length (offsetBehind origin at) (bytesOf (answerAt file origin k at)) (bytes-short (answerAt file origin k at) (answer-at-short file origin k at))
+    let l = line-length (offsetBehind origin at) (bytesOf (answerAt file origin k at)) (bytes-short (answerAt file origin k at) (answer-at-short file origin k at)) in
+    let b = pick-length forms (groundAt file origin k) (ground-at-length file origin k) in
+    rw (length-append (lineOf (offsetBehind origin at) (bytesOf (answerAt file origin k at))) (pick forms (groundAt file origin k) [])) (omega arith)
   where
     bytes-short : (a : Answer) → Short a → length (bytesOf a) ≤ 7
     bytes-short (bytes bs) h = h
     bytes-short (refused e) h = omega arith
 
-lines-next : (file : List ℕ) (origin k : ℕ) → linesOf file origin (k + 1) ≡ linesOf file origin k ++ recordLine file origin k
+lines-next : (forms : Bool) (file : List ℕ) (origin k : ℕ) → linesOf forms file origin (k + 1) ≡ linesOf forms file origin k ++ recordText forms file origin k
 unfolding linesOf
-lines-next file origin k = rw (add-one k) refl
+lines-next forms file origin k = rw (add-one k) refl
 
-pub lines-short : (file : List ℕ) (origin n : ℕ) → length (linesOf file origin n) ≤ mostLine * n
+one-more : (forms : Bool) (n : ℕ) → mostRecord forms * suc n ≡ mostRecord forms * n + mostRecord forms
+one-more true n = omega arith
+one-more false n = omega arith
+
+room-for : (forms : Bool) (k n x y : ℕ) → k < n → x ≤ mostRecord forms * k → mostRecord forms * n ≤ y → x + mostRecord forms ≤ y
+room-for true k n x y h a b = omega arith
+room-for false k n x y h a b = omega arith
+
+pub room-of : (forms : Bool) (n : ℕ) → n ≤ mostRecords → mostRecord forms * n ≤ mostRecord forms * mostRecords
+room-of true n h = omega arith
+room-of false n h = omega arith
+
+pub lines-short : (forms : Bool) (file : List ℕ) (origin n : ℕ) → length (linesOf forms file origin n) ≤ mostRecord forms * n
 unfolding linesOf
-lines-short file origin zero = omega arith
-lines-short file origin (suc n) =
-    let l = record-short file origin n in
-    let before = lines-short file origin n in
-    rw (length-append (linesOf file origin n) (recordLine file origin n)) (omega arith)
+lines-short forms file origin zero = omega arith
+lines-short forms file origin (suc n) =
+    let l = record-short forms file origin n in
+    let before = lines-short forms file origin n in
+    rw (length-append (linesOf forms file origin n) (recordText forms file origin n), one-more forms n) (omega arith)
 
--- ---- the lines of the first k records stand at the front of out
-pub record Lines (file : List ℕ) (origin k at to : ℕ) (out₀ out : List ℕ) : Type 0 where
+-- ---- the texts of the first k records stand at the front of out
+pub record Lines (forms : Bool) (file : List ℕ) (origin k at to : ℕ) (out₀ out : List ℕ) : Type 0 where
   pub upto : Upto file origin k at
-  pub ends : to ≡ length (linesOf file origin k)
-  pub front : Front (linesOf file origin k) out₀ out
+  pub ends : to ≡ length (linesOf forms file origin k)
+  pub front : Front (linesOf forms file origin k) out₀ out
 
-pub lines-start : (file : List ℕ) (origin : ℕ) (out : List ℕ) → Lines file origin 0 0 0 out out
+pub lines-start : (forms : Bool) (file : List ℕ) (origin : ℕ) (out : List ℕ) → Lines forms file origin 0 0 0 out out
 unfolding linesOf
-lines-start file origin out = record { upto = upto-start file origin; ends = refl; front = front-start out }
+lines-start forms file origin out = record { upto = upto-start file origin; ends = refl; front = front-start out }
 
 -- and the next has room
-pub lines-in : (file : List ℕ) (origin k at to : ℕ) (out₀ out : List ℕ) → Lines file origin k at to out₀ out → (n : ℕ) → k < n → mostLine * n ≤ length out₀
-    → to + mostLine ≤ length out
-lines-in file origin k at to out₀ out s n h room =
-    let l = lines-short file origin k in
+pub lines-in : (forms : Bool) (file : List ℕ) (origin k at to : ℕ) (out₀ out : List ℕ) → Lines forms file origin k at to out₀ out → (n : ℕ) → k < n
+    → mostRecord forms * n ≤ length out₀ → to + mostRecord forms ≤ length out
+lines-in forms file origin k at to out₀ out s n h room =
+    let l = room-for forms k n (length (linesOf forms file origin k)) (length out₀) h (lines-short forms file origin k) room in
     let b = s .front .same in
     omega (arith, s .ends)
 
-module _ (file : List ℕ) (origin k at to : ℕ) (out₀ out : List ℕ) (s : Lines file origin k at to out₀ out) (d : Emitted)
-    (hd : d ≡ emitted emptyRun (answerAt file origin k at)) (line : Line)
-    (hl : line ≡ appended emptyLine (lineOf (offsetBehind origin at) (take (d .run .len) (d .run .bytes)))) where
-  holds-record : Holds line (recordLine file origin k)
-  unfolding recordLine
+module _ (forms : Bool) (file : List ℕ) (origin k at to : ℕ) (out₀ out : List ℕ) (s : Lines forms file origin k at to out₀ out) (d : Emitted)
+    (hd : d ≡ emitted emptyRun (answerAt file origin k at)) (n : ℕ) (t : isAll (walk file origin n) ≡ true) (h : k < n) {line text : Line}
+    (hl : line ≡ appended emptyLine (lineOf (offsetBehind origin at) (take (d .run .len) (d .run .bytes)))) (ht : text ≡ appended line (pick forms (formAt file k (d .run .bytes)) [])) where
+  holds-record : Holds text (recordText forms file origin k)
+  unfolding recordText recordLine
   holds-record =
       let e : lineOf (offsetBehind origin at) (take (d .run .len) (d .run .bytes)) ≡ recordLine file origin k = rw (ran file origin k at d hd .shown, s .upto .ends) refl in
-      line-holds line (recordLine file origin k) (record-short file origin k) (rw e at hl)
+      let r = record-short forms file origin k in
+      let m = pick-most forms in
+      line-holds text (recordText forms file origin k) (omega arith)
+      (then emptyLine (recordLine file origin k) (pick forms (groundAt file origin k) []) (rw e at hl)
+      (rw (← (ground-accepted file origin k at (s .upto) d hd n t h)) at ht))
 
-  pub line-short : line .len ≤ mostLine
-  line-short = let r = record-short file origin k in let c = holds-record .count in omega arith
+  pub text-short : text .len ≤ mostRecord forms
+  text-short = let r = record-short forms file origin k in let c = holds-record .count in omega arith
 
-  -- where all n records are accepted, and their lines have room
-  pub lines-more : (n : ℕ) → isAll (walk file origin n) ≡ true → k < n → mostLine * n ≤ length out₀ → (last : List ℕ) (m : ℕ) → m ≡ line .len
-      → last ≡ take (line .len) (line .bytes) ++ drop (line .len) (lent out to)
-      → Lines file origin (k + 1) (at + d .run .len) (to + m) out₀ (putMid to (length out - to) out last)
-  lines-more n t h room last m hm e =
+  pub text-in-line : text .len ≤ lineLength
+  text-in-line = let t = text-short in let m = pick-most forms in omega arith
+
+  -- where all n records are accepted, and their texts have room
+  pub lines-more : mostRecord forms * n ≤ length out₀ → (last : List ℕ) (m : ℕ) → m ≡ text .len
+      → last ≡ take (text .len) (text .bytes) ++ drop (text .len) (lent out to)
+      → Lines forms file origin (k + 1) (at + d .run .len) (to + m) out₀ (putMid to (length out - to) out last)
+  lines-more room last m hm e =
       let q = rw (holds-record .shown, holds-record .count) at e in
-      let r = lines-in file origin k at to out₀ out s n h room in
+      let r = lines-in forms file origin k at to out₀ out s n h room in
       let b = s .front .same in
       let c = holds-record .count in
-      let l = line-short in
+      let l = text-short in
       record {
         upto = rw (ran file origin k at d hd .count) (step-all file origin k at (s .upto) n t h .upto);
-        ends = rw (lines-next file origin k, length-append (linesOf file origin k) (recordLine file origin k)) (omega (arith, s .ends));
-        front = rw (lines-next file origin k) (front-next (linesOf file origin k) (recordLine file origin k) out₀ out last to (s .front) (s .ends) (omega arith) q);
+        ends = rw (lines-next forms file origin k, length-append (linesOf forms file origin k) (recordText forms file origin k)) (omega (arith, s .ends));
+        front = rw (lines-next forms file origin k) (front-next (linesOf forms file origin k) (recordText forms file origin k) out₀ out last to (s .front) (s .ends) (omega arith) q);
       }

@@ -1,2 +1,5 @@
+pub mod Grounds
 pub mod Laws
 pub mod Shown
+pub mod Cut
+pub mod Grounded

@@ -24,11 +24,11 @@ use Rattle.show_load.specs.declared.Loaded.{Loaded}
 use Rattle.show_load.specs.declared.Loaded.the-variants as L
 use Rattle.show_load.specs.Loading.{Walk, all, stopped, offsetBehind, answerAt, followed, further, walk, measured, showAccepted, acceptedBy, accepted, fitted, loaded}
 use Rattle.show_load.proofs.Laws.{accepted-image, within-seven, Front, front-is, front-next, lent, lent-length}
-use Rattle.show_text.specs.Text.{firstLine, refusedLine, linesOf, imageLength, showText, textBy, text, mostLine, mostText, listed}
-use Rattle.show_text.specs.declared.Line.{Line}
+use Rattle.text_line.specs.declared.Line.{Line}
+use Rattle.text_line.specs.Steps.{lineLength, emptyLine, appended}
+use Rattle.show_text.specs.Text.{firstLine, refusedLine, linesOf, imageLength, showText, refusedGround, textBy, text, mostLine, mostRecord, mostText, listed}
 use Rattle.show_text.specs.declared.Listed.the-variants.{Length as Listed·Length, TooShort as Listed·TooShort}
-use Rattle.show_text.specs.Steps.{emptyLine, appended}
-use Rattle.show_text.proofs.Laws.{first-length, refused-length, first-holds, lines-short}
+use Rattle.show_text.proofs.Laws.{first-length, first-holds, refused-text-length, lines-short, room-of}
 
 -- ---- an image of 7,000 bytes holds every show: a record has at most seven
 pub all-fit : (file : List ℕ) → loaded file imageLength ≡ accepted file
@@ -43,42 +43,44 @@ all-fit file = go (accepted file) refl
         let e = x .size in
         rw (le-leb n imageLength (omega arith))
 
-pub text-is : (file : List ℕ) (l : Loaded) → accepted file ≡ l → text file ≡ textBy file l
+pub text-is : (forms : Bool) (file : List ℕ) (l : Loaded) → accepted file ≡ l → text forms file ≡ textBy forms file l
 unfolding text
-text-is file l e = rw (all-fit file, e) refl
+text-is forms file l e = rw (all-fit file, e) refl
 
--- ---- no text is longer than MOST_TEXT
-text-most : (file : List ℕ) → length (text file) ≤ mostText
-unfolding showText
-text-most file = go (accepted file) refl
-  where
-    go : (l : Loaded) → accepted file ≡ l → length (text file) ≤ mostText
-    go (L.Refused e) q = let a = refused-length e in rw (text-is file (L.Refused e) q) (omega arith)
-    go (L.Image h n) q =
-        let few = accepted-image file h n q .exact .its-count in
-        let a = first-length h in
-        let b = lines-short file (h .origin) (h .count) in
-        rw (text-is file (L.Image h n) q, length-append (firstLine h) (linesOf file (h .origin) (h .count))) (omega arith)
+-- ---- no text is longer than MOST_TEXT, or MOST_FORMS
+module _ (forms : Bool) (file : List ℕ) where
+  text-most : length (text forms file) ≤ mostText forms
+  unfolding showText
+  text-most = go (accepted file) refl
+    where
+      go : (l : Loaded) → accepted file ≡ l → length (text forms file) ≤ mostText forms
+      go (L.Refused e) q = let a = refused-text-length forms file e in rw (text-is forms file (L.Refused e) q) (omega arith)
+      go (L.Image h n) q =
+          let few = room-of forms (h .count) (accepted-image file h n q .exact .its-count) in
+          let a = first-length h in
+          let b = lines-short forms file (h .origin) (h .count) in
+          rw (text-is forms file (L.Image h n) q, length-append (firstLine h) (linesOf forms file (h .origin) (h .count))) (omega arith)
 
--- and it fits where write_text answers a length
-pub listed-fits : (file : List ℕ) (size n : ℕ) → listed file size ≡ Listed·Length n → n ≤ size
-unfolding listed
-listed-fits file size n = go (leb mostText size) refl
-  where
-    go : (t : Bool) → leb mostText size ≡ t → pick t (Listed·Length (length (text file))) Listed·TooShort ≡ Listed·Length n → n ≤ size
-    go true h e =
-        let q : length (text file) ≡ n = cc in
-        let m = text-most file in
-        let l = leb-true mostText size h in
-        omega arith
-    go false h e = let z : _≡_ {A = ℕ} 0 1 = cc in absurd (omega arith)
+  -- and it fits where a length is answered
+  pub listed-fits : (size n : ℕ) → listed forms file size ≡ Listed·Length n → n ≤ size
+  unfolding listed
+  listed-fits size n = go (leb (mostText forms) size) refl
+    where
+      go : (t : Bool) → leb (mostText forms) size ≡ t → pick t (Listed·Length (length (text forms file))) Listed·TooShort ≡ Listed·Length n → n ≤ size
+      go true h e =
+          let q : length (text forms file) ≡ n = cc in
+          let m = text-most in
+          let l = leb-true (mostText forms) size h in
+          omega arith
+      go false h e = let z : _≡_ {A = ℕ} 0 1 = cc in absurd (omega arith)
 
 -- ---- the first line, and the others behind it
-module _ (file : List ℕ) (h : Header) (few : h .count ≤ mostRecords) (out₀ : List ℕ) (room : mostText ≤ length out₀) (line : Line) (hl : line ≡ appended emptyLine (firstLine h)) where
+module _ (forms : Bool) (file : List ℕ) (h : Header) (few : h .count ≤ mostRecords) (out₀ : List ℕ) (room : mostText forms ≤ length out₀) (line : Line)
+    (hl : line ≡ appended emptyLine (firstLine h)) where
   abbrev lines : List ℕ
-  lines = linesOf file (h .origin) (h .count)
+  lines = linesOf forms file (h .origin) (h .count)
 
-  pub first-fits : (line .len ≤ mostLine) × (line .len ≤ length out₀)
+  pub first-fits : (line .len ≤ lineLength) × (line .len ≤ length out₀)
   first-fits = let a = first-length h in let b = first-holds line h hl .count in (omega arith, omega arith)
 
   module _ (out : List ℕ) (to : ℕ) (ht : to ≡ line .len) (ho : out ≡ take (line .len) (line .bytes) ++ drop (line .len) out₀) where
@@ -91,17 +93,18 @@ module _ (file : List ℕ) (h : Header) (few : h .count ≤ mostRecords) (out₀
         let a = first-length h in
         front-is (firstLine h) out₀ out (omega arith) (rw (f .shown, f .count) at ho)
 
-    pub first-in : (to ≤ length out) × (mostLine * h .count ≤ length (lent out to)) × (to + length lines ≤ mostText)
+    pub first-in : (to ≤ length out) × (mostRecord forms * h .count ≤ length (lent out to)) × (to + length lines ≤ mostText forms)
     first-in =
         let a = first-length h in
         let b = to-is in
         let c = front .same in
         let d = lent-length out to in
-        let e = lines-short file (h .origin) (h .count) in
+        let e = lines-short forms file (h .origin) (h .count) in
+        let f = room-of forms (h .count) few in
         (omega arith, omega arith, omega arith)
 
     pub whole-is : (last : List ℕ) (m : ℕ) → m ≡ length lines → last ≡ lines ++ drop (length lines) (lent out to)
-        → (to + m ≡ length (showText file h)) × (putMid to (length out - to) out last ≡ showText file h ++ drop (length (showText file h)) out₀)
+        → (to + m ≡ length (showText forms file h)) × (putMid to (length out - to) out last ≡ showText forms file h ++ drop (length (showText forms file h)) out₀)
     unfolding showText
     whole-is last m hm e =
         let i = first-in .2 in

@@ -1,2 +1,3 @@
 pub mod Text
-pub mod Steps
+pub mod Forms
+pub mod Grounded

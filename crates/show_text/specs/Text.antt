@@ -1,51 +1,26 @@
--- The text of a show file, which `fsqlist` prints (REFERENCE 9), in ASCII.
+-- The texts of a show file, which `fsqlist` and `fsqform` print (REFERENCE 9), in ASCII.
 -- Definitions only.
-use Prim.Native.Nat.{ℕ, zero, suc, _+_, _*_, _/_, _%_}
+use Prim.Native.Nat.{ℕ, zero, suc, _+_, _*_}
+use mathlib.Core.Bool.{Bool}
 use mathlib.Core.List.{List, [], _∷_, _++_}
-use lib.Dec.{ltb, leb}
+use lib.Dec.{leb}
 use lib.ListN.{length, drop}
 use Rattle.mrc_compiler.specs.Choose.{pick}
 use Rattle.show_file.specs.declared.Header.{Header}
 use Rattle.show_file.specs.declared.LoadError.{LoadError}
 use Rattle.show_file.specs.declared.LoadError.the-variants as E
-use Rattle.show_file.specs.Show.{mostRecords}
+use Rattle.show_file.specs.Show.{mostRecords, header, insnAt}
 use Rattle.show_file.specs.Refusals.{numberOf}
 use Rattle.show_load.specs.declared.Loaded.{Loaded}
 use Rattle.show_load.specs.declared.Loaded.the-variants as L
 use Rattle.show_load.specs.Loading.{offsetBehind, answerAt, bytesOf, walk, bytesIn, loaded}
+use Rattle.encode_form.specs.Ground.{ground}
+use Rattle.text_line.specs.Numbers.{blank, lineFeed, hexWord, hexBytes, decimal}
+use Rattle.text_form.specs.Lines.{groundLine, mostGround}
 use Rattle.show_text.specs.declared.Listed.{Listed}
 use Rattle.show_text.specs.declared.Listed.the-variants as T
 
--- ---- numbers
--- a hexadecimal digit, upper case: '0' and 'A' - 10 on
-abbrev pub hexDigit : ℕ → ℕ
-hexDigit d = pick (ltb d 10) (0x30 + d) (0x37 + d)
-
-unfoldable pub hexByte : ℕ → List ℕ
-hexByte b = hexDigit (b / 16) ∷ hexDigit (b % 16) ∷ []
-
-unfoldable pub hexWord : ℕ → List ℕ
-hexWord w = hexByte (w / 256) ++ hexByte (w % 256)
-
-abbrev pub hexBytes : List ℕ → List ℕ
-hexBytes [] = []
-hexBytes (b ∷ bs) = hexByte b ++ hexBytes bs
-
--- the digit of a place, ten or a power of it, where the number reaches that place
-unfoldable pub digitFrom : ℕ → ℕ → List ℕ
-digitFrom place n = pick (leb place n) ((0x30 + n / place % 10) ∷ []) []
-
--- a decimal number without leading zeros, below 100,000
-unfoldable pub decimal : ℕ → List ℕ
-decimal n = digitFrom 10000 n ++ (digitFrom 1000 n ++ (digitFrom 100 n ++ (digitFrom 10 n ++ ((0x30 + n % 10) ∷ []))))
-
 -- ---- lines
-abbrev pub blank : ℕ
-blank = 0x20
-
-abbrev pub lineFeed : ℕ
-lineFeed = 0x0A
-
 -- "FSQ ": version, origin, count
 unfoldable pub firstLine : Header → List ℕ
 firstLine h =
@@ -70,43 +45,64 @@ refusedLine e =
     (0x72 ∷ 0x65 ∷ 0x66 ∷ 0x75 ∷ 0x73 ∷ 0x65 ∷ 0x64 ∷ blank ∷ [])
     ++ (decimal (numberOf e) ++ (blank ∷ recordOf e ++ (lineFeed ∷ [])))
 
--- ---- the text
+-- ---- the texts: without forms the one that `fsqlist` prints, with forms that of `fsqform`
 -- record k, behind the bytes of those before it
 unfoldable pub recordLine : List ℕ → ℕ → ℕ → List ℕ
 recordLine file origin k =
     let at = length (bytesIn (walk file origin k)) in
     lineOf (offsetBehind origin at) (bytesOf (answerAt file origin k at))
 
--- the lines of the first n records
-unfoldable pub linesOf : List ℕ → ℕ → ℕ → List ℕ
-linesOf file origin zero = []
-linesOf file origin (suc k) = linesOf file origin k ++ recordLine file origin k
+-- and why it is answered so
+unfoldable pub groundAt : List ℕ → ℕ → ℕ → List ℕ
+groundAt file origin k =
+    let at = length (bytesIn (walk file origin k)) in
+    groundLine (ground (insnAt file k) (offsetBehind origin at)) (insnAt file k)
+
+unfoldable pub recordText : Bool → List ℕ → ℕ → ℕ → List ℕ
+recordText forms file origin k = recordLine file origin k ++ pick forms (groundAt file origin k) []
+
+-- the texts of the first n records
+unfoldable pub linesOf : Bool → List ℕ → ℕ → ℕ → List ℕ
+linesOf forms file origin zero = []
+linesOf forms file origin (suc k) = linesOf forms file origin k ++ recordText forms file origin k
 
 -- an image that holds every show: records have at most seven bytes
 abbrev pub imageLength : ℕ
 imageLength = 7 * mostRecords
 
-unfoldable pub showText : List ℕ → Header → List ℕ
-showText file h = firstLine h ++ linesOf file (h .origin) (h .count)
+unfoldable pub showText : Bool → List ℕ → Header → List ℕ
+showText forms file h = firstLine h ++ linesOf forms file (h .origin) (h .count)
 
-abbrev pub textBy : List ℕ → Loaded → List ℕ
-textBy file (L.Image h n) = showText file h
-textBy file (L.Refused e) = refusedLine e
+-- of the record that is refused; a refusal of the file itself has no ground
+abbrev pub refusedGround : List ℕ → LoadError → List ℕ
+refusedGround file E.NoMark = []
+refusedGround file E.WrongVersion = []
+refusedGround file E.WrongLength = []
+refusedGround file (E.UnknownCode k) = []
+refusedGround file (E.Record k e) = groundAt file (header file .origin) k
 
-unfoldable pub text : List ℕ → List ℕ
-text file = textBy file (loaded file imageLength)
+abbrev pub textBy : Bool → List ℕ → Loaded → List ℕ
+textBy forms file (L.Image h n) = showText forms file h
+textBy forms file (L.Refused e) = refusedLine e ++ pick forms (refusedGround file e) []
+
+unfoldable pub text : Bool → List ℕ → List ℕ
+text forms file = textBy forms file (loaded file imageLength)
 
 -- ---- a slice that is lent for the text
--- no line is longer, and no text than the first line and those of the records
+-- no line is longer, but that of a ground
 abbrev pub mostLine : ℕ
 mostLine = 32
 
-abbrev pub mostText : ℕ
-mostText = mostLine * (1 + mostRecords)
+-- no text of a record is longer, and none than the first line and those of the records
+abbrev pub mostRecord : Bool → ℕ
+mostRecord forms = mostLine + pick forms mostGround 0
 
-unfoldable pub listed : List ℕ → ℕ → Listed
-listed file size = pick (leb mostText size) (T.Length (length (text file))) T.TooShort
+abbrev pub mostText : Bool → ℕ
+mostText forms = mostLine + mostRecord forms * mostRecords
+
+unfoldable pub listed : Bool → List ℕ → ℕ → Listed
+listed forms file size = pick (leb (mostText forms) size) (T.Length (length (text forms file))) T.TooShort
 
 -- the text at the front of the slice
-unfoldable pub sliceAfter : List ℕ → List ℕ → List ℕ
-sliceAfter file out = pick (leb mostText (length out)) (text file ++ drop (length (text file)) out) out
+unfoldable pub sliceAfter : Bool → List ℕ → List ℕ → List ℕ
+sliceAfter forms file out = pick (leb (mostText forms) (length out)) (text forms file ++ drop (length (text forms file)) out) out

@@ -1,23 +1,33 @@
-// The text of a show file: the first line and a line for each record, or the refusal (REFERENCE 9).
+// The texts of a show file (REFERENCE 9): the first line and a line for each record, or the refusal; with forms, a line under each record, and under its refusal, says why.
 ghost use mathlib.Core.Path.{_≡_};
-ghost use mathlib.Core.Bool.{true};
-ghost use mathlib.Core.List.{_++_};
-ghost use Prim.Native.Nat.{_*_, _≤_};
+ghost use mathlib.Core.Bool.{true, false};
+ghost use mathlib.Core.List.{[], _++_};
+ghost use Prim.Native.Nat.{_*_, _<_, _≤_};
 ghost use lib.ListN.{length, take, drop};
-ghost use Rattle.show_file.specs.Show.{recordPlace, mostRecords};
-ghost use Rattle.show_load.specs.Loading.{walk, isAll};
-ghost use Rattle.show_text.specs.Text.{hexDigit, hexByte, hexWord, hexBytes, digitFrom, decimal, firstLine, lineOf, recordOf, refusedLine, linesOf, showText, mostLine, mostText, listed, sliceAfter};
-ghost use Rattle.show_text.specs.Steps.{emptyLine, pushed, appended};
+ghost use Rattle.mrc_compiler.specs.Choose.{pick};
+ghost use Rattle.encode_form.specs.ByBytes.{questionBy};
+ghost use Rattle.show_file.specs.Show.{recordPlace, mostRecords, insnAt};
+ghost use Rattle.show_load.specs.declared.Loaded.the-variants.{Refused};
+ghost use Rattle.show_load.specs.Loading.{walk, isAll, accepted};
+ghost use Rattle.text_form.specs.Lines.{questionLine};
+ghost use Rattle.text_line.specs.Numbers.{hexBytes};
+ghost use Rattle.text_line.specs.Steps.{emptyLine, appended};
+ghost use Rattle.show_text.specs.Text.{firstLine, lineOf, recordOf, refusedLine, linesOf, showText, mostRecord, mostText, listed, sliceAfter};
+ghost use Rattle.show_text.specs.Forms.{formAt, questionOf};
 use encode_run::ByteRun;
+use mrc_compiler::encoder::EncodeError;
 use show_file::Header;
 use show_file::LoadError;
+use show_file::insn_at;
 use show_load::Loaded;
-
-// A line of text: bytes and how many of them are there.
-pub struct Line {
-    pub bytes: [u8; 32],
-    pub len: usize,
-}
+use text_line::Line;
+use text_line::empty_line;
+use text_line::push;
+use text_line::push_decimal;
+use text_line::push_hex_byte;
+use text_line::push_hex_word;
+use text_line::push_text;
+use text_line::write_line;
 
 pub enum Listed {
     Length(usize),
@@ -27,88 +37,8 @@ pub enum Listed {
 // What a slice must hold to be lent: no text is longer.
 pub const MOST_TEXT: usize = 32032;
 
-fn empty_line() -> Line
-    ensures { λ r. ⌜ r ≡ emptyLine ⌝ }
-{
-    Line {
-        bytes: [0; 32],
-        len: 0,
-    }
-}
-
-// One byte more; a full line stays as it is.
-fn push(line: Line, byte: u8) -> Line
-    ensures { λ r. ⌜ r ≡ pushed line byte ⌝ }
-{
-    let at = line.len;
-    if at < 32 {
-        let mut next = line;
-        next.bytes[at] = byte;
-        next.len = at + 1;
-        next
-    } else {
-        line
-    }
-}
-
-fn push_text(line: Line, text: &[u8]) -> Line
-    ensures { λ r. ⌜ r ≡ appended line (now (text .entry)) ⌝ }
-{
-    let mut so_far = line;
-    let mut i = 0;
-    while i < text.len() {
-        let b = text[i];
-        so_far = push(so_far, b);
-        i += 1;
-    }
-    so_far
-}
-
-// ---- numbers
-fn hex_digit(d: u8) -> u8
-    requires { ⌜ d ≤ 15 ⌝ }
-    ensures { λ r. ⌜ r ≡ hexDigit d ⌝ }
-{
-    if d < 10 { 0x30 + d } else { 0x37 + d }
-}
-
-fn push_hex_byte(line: Line, b: u8) -> Line
-    ensures { λ r. ⌜ r ≡ appended line (hexByte b) ⌝ }
-{
-    let high = hex_digit(b / 16);
-    let low = hex_digit(b % 16);
-    let first = push(line, high);
-    push(first, low)
-}
-
-fn push_hex_word(line: Line, w: u16) -> Line
-    ensures { λ r. ⌜ r ≡ appended line (hexWord w) ⌝ }
-{
-    let first = push_hex_byte(line, (w / 256) as u8);
-    push_hex_byte(first, (w % 256) as u8)
-}
-
-// The digit of a place where the number reaches that place.
-fn push_digit(line: Line, place: usize, n: usize) -> Line
-    requires { ⌜ 10 ≤ place ⌝ }
-    ensures { λ r. ⌜ r ≡ appended line (digitFrom place n) ⌝ }
-{
-    if place <= n {
-        push(line, 0x30 + (n / place % 10) as u8)
-    } else {
-        line
-    }
-}
-
-fn push_decimal(line: Line, n: usize) -> Line
-    ensures { λ r. ⌜ r ≡ appended line (decimal n) ⌝ }
-{
-    let first = push_digit(line, 10000, n);
-    let second = push_digit(first, 1000, n);
-    let third = push_digit(second, 100, n);
-    let fourth = push_digit(third, 10, n);
-    push(fourth, 0x30 + (n % 10) as u8)
-}
+// The same of the text with forms.
+pub const MOST_FORMS: usize = 96032;
 
 // ---- lines
 fn first_line(header: Header) -> Line
@@ -175,28 +105,58 @@ fn refused_line(error: LoadError) -> Line
     push(record, 0x0A)
 }
 
-// ---- the text
-// Writes the line to the front of out.
-fn write_line(line: Line, out: &mut [u8]) -> usize
-    requires { ⌜ (line .len ≤ mostLine) × (line .len ≤ length (now out)) ⌝ }
-    ensures { λ r. ⌜ r ≡ line .len ⌝ }
-    ensures { λ _. ⌜ now (out .exit) ≡ take (line .len) (line .bytes) ++ drop (line .len) (now (out .entry)) ⌝ }
+// ---- grounds
+// The form of record k, which is accepted with the bytes of run, behind its line.
+fn push_form_at(line: Line, file: &[u8], n: usize, k: usize, run: ByteRun, forms: bool) -> Line
+    requires { ⌜ (length (now file) ≡ recordPlace n) × (n ≤ mostRecords) × (k < n) ⌝ }
+    ensures { λ r. ⌜ r ≡ appended line (pick forms (formAt (now (file .entry)) k (run .bytes)) []) ⌝ }
 {
-    let n = line.len;
-    let mut i = 0;
-    while i < n {
-        let b = line.bytes[i];
-        out[i] = b;
-        i += 1;
+    if forms {
+        let insn = insn_at(file, n, k);
+        let written = encode_form::written_in(run, insn);
+        text_form::push_form(line, written, insn)
+    } else {
+        line
     }
-    n
 }
 
-// The lines of the records, each into the part of out that starts where the last one ended.
-fn write_lines(file: &[u8], n: usize, origin: u16, out: &mut [u8]) -> usize
-    requires { ⌜ (length (now file) ≡ recordPlace n) × (n ≤ mostRecords) × (isAll (walk (now file) origin n) ≡ true) × (mostLine * n ≤ length (now out)) ⌝ }
-    ensures { λ r. ⌜ r ≡ length (linesOf (now (file .entry)) origin n) ⌝ }
-    ensures { λ _. ⌜ now (out .exit) ≡ linesOf (now (file .entry)) origin n ++ drop (length (linesOf (now (file .entry)) origin n)) (now (out .entry)) ⌝ }
+// The question that refused record k.
+fn push_question_at(line: Line, file: &[u8], n: usize, k: usize, error: EncodeError) -> Line
+    requires { ⌜ (length (now file) ≡ recordPlace n) × (n ≤ mostRecords) × (k < n) ⌝ }
+    ensures { λ r. ⌜ r ≡ appended line (questionLine (questionBy error (insnAt (now (file .entry)) k))) ⌝ }
+{
+    let insn = insn_at(file, n, k);
+    let number = encode_form::question_of(error, insn);
+    text_form::push_question(line, number)
+}
+
+// The question behind the line of a refusal. A file that is asked about its records has so many as its length holds.
+fn push_question_of(line: Line, file: &[u8], error: LoadError, forms: bool) -> Line
+    requires { ⌜ accepted (now file) ≡ Refused error ⌝ }
+    ensures { λ r. ⌜ r ≡ appended line (pick forms (questionOf (now (file .entry)) error) []) ⌝ }
+{
+    if forms {
+        match error {
+            LoadError::NoMark => line,
+            LoadError::WrongVersion => line,
+            LoadError::WrongLength => line,
+            LoadError::UnknownCode(_) => line,
+            LoadError::Record(k, e) => {
+                let n = (file.len() - 9) / 56;
+                push_question_at(line, file, n, k, e)
+            }
+        }
+    } else {
+        line
+    }
+}
+
+// ---- the text
+// The text of each record, into the part of out that starts where the last one ended.
+fn write_lines(file: &[u8], n: usize, origin: u16, forms: bool, out: &mut [u8]) -> usize
+    requires { ⌜ (length (now file) ≡ recordPlace n) × (n ≤ mostRecords) × (isAll (walk (now file) origin n) ≡ true) × (mostRecord forms * n ≤ length (now out)) ⌝ }
+    ensures { λ r. ⌜ r ≡ length (linesOf forms (now (file .entry)) origin n) ⌝ }
+    ensures { λ _. ⌜ now (out .exit) ≡ linesOf forms (now (file .entry)) origin n ++ drop (length (linesOf forms (now (file .entry)) origin n)) (now (out .entry)) ⌝ }
 {
     let mut k = 0;
     let mut at = 0;
@@ -206,8 +166,9 @@ fn write_lines(file: &[u8], n: usize, origin: u16, out: &mut [u8]) -> usize
         let run = step.run;
         let offset = show_load::offset_behind(origin, at);
         let line = line_of(offset, run);
+        let text = push_form_at(line, file, n, k, run, forms);
         let part = &mut out[to..];
-        let m = write_line(line, part);
+        let m = write_line(text, part);
         let size = run.len;
         at = at + size;
         to = to + m;
@@ -216,39 +177,63 @@ fn write_lines(file: &[u8], n: usize, origin: u16, out: &mut [u8]) -> usize
     to
 }
 
-// The first line, and the lines of the records behind it.
-fn write_show(file: &[u8], header: Header, out: &mut [u8]) -> usize
-    requires { ⌜ (length (now file) ≡ recordPlace (header .count)) × (header .count ≤ mostRecords) × (isAll (walk (now file) (header .origin) (header .count)) ≡ true) × (mostText ≤ length (now out)) ⌝ }
-    ensures { λ r. ⌜ r ≡ length (showText (now (file .entry)) header) ⌝ }
-    ensures { λ _. ⌜ now (out .exit) ≡ showText (now (file .entry)) header ++ drop (length (showText (now (file .entry)) header)) (now (out .entry)) ⌝ }
+// The first line, and the texts of the records behind it.
+fn write_show(file: &[u8], header: Header, forms: bool, out: &mut [u8]) -> usize
+    requires { ⌜ (length (now file) ≡ recordPlace (header .count)) × (header .count ≤ mostRecords) × (isAll (walk (now file) (header .origin) (header .count)) ≡ true) × (mostText forms ≤ length (now out)) ⌝ }
+    ensures { λ r. ⌜ r ≡ length (showText forms (now (file .entry)) header) ⌝ }
+    ensures { λ _. ⌜ now (out .exit) ≡ showText forms (now (file .entry)) header ++ drop (length (showText forms (now (file .entry)) header)) (now (out .entry)) ⌝ }
 {
     let n = header.count as usize;
     let origin = header.origin;
     let line = first_line(header);
     let to = write_line(line, out);
     let part = &mut out[to..];
-    let m = write_lines(file, n, origin, part);
+    let m = write_lines(file, n, origin, forms, part);
     to + m
 }
 
-// Writes the text of a show file to the front of out, and answers its length. A slice shorter than MOST_TEXT stays as it was.
-pub fn write_text(file: &[u8], out: &mut [u8]) -> Listed
-    ensures { λ r. ⌜ r ≡ listed (now (file .entry)) (length (now (out .entry))) ⌝ }
-    ensures { λ _. ⌜ now (out .exit) ≡ sliceAfter (now (file .entry)) (now (out .entry)) ⌝ }
+// What a slice must hold to be lent.
+fn most_of(forms: bool) -> usize
+    ensures { λ r. ⌜ r ≡ mostText forms ⌝ }
 {
-    if out.len() < MOST_TEXT {
+    if forms { MOST_FORMS } else { MOST_TEXT }
+}
+
+fn write(file: &[u8], forms: bool, out: &mut [u8]) -> Listed
+    ensures { λ r. ⌜ r ≡ listed forms (now (file .entry)) (length (now (out .entry))) ⌝ }
+    ensures { λ _. ⌜ now (out .exit) ≡ sliceAfter forms (now (file .entry)) (now (out .entry)) ⌝ }
+{
+    let most = most_of(forms);
+    if out.len() < most {
         return Listed::TooShort;
     }
     let show = show_load::accept(file);
     match show {
         Loaded::Refused(e) => {
             let line = refused_line(e);
-            let n = write_line(line, out);
+            let text = push_question_of(line, file, e, forms);
+            let n = write_line(text, out);
             Listed::Length(n)
         },
         Loaded::Image(header, _) => {
-            let n = write_show(file, header, out);
+            let n = write_show(file, header, forms, out);
             Listed::Length(n)
         },
     }
+}
+
+// Writes the text of a show file to the front of out, and answers its length. A slice shorter than MOST_TEXT stays as it was.
+pub fn write_text(file: &[u8], out: &mut [u8]) -> Listed
+    ensures { λ r. ⌜ r ≡ listed false (now (file .entry)) (length (now (out .entry))) ⌝ }
+    ensures { λ _. ⌜ now (out .exit) ≡ sliceAfter false (now (file .entry)) (now (out .entry)) ⌝ }
+{
+    write(file, false, out)
+}
+
+// The same of the text with forms, and of MOST_FORMS.
+pub fn write_forms(file: &[u8], out: &mut [u8]) -> Listed
+    ensures { λ r. ⌜ r ≡ listed true (now (file .entry)) (length (now (out .entry))) ⌝ }
+    ensures { λ _. ⌜ now (out .exit) ≡ sliceAfter true (now (file .entry)) (now (out .entry)) ⌝ }
+{
+    write(file, true, out)
 }

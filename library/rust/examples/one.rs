@@ -1,11 +1,12 @@
-//! Encodes Word ADD [BX],5, reads it back, lists all of its strings, and shows a refusal.
+//! Encodes Word ADD [BX],5, tells its form, reads it back, lists all of its strings, and shows a refusal with its question.
 
-use fsq::{encode, list, read, Base, Instruction, Operand, Operation, Refusal};
+use fsq::{encode, form, list, read, Base, Instruction, Operand, Operation, Refusal};
 
 fn main() -> Result<(), Refusal> {
     let add = Instruction::two(Operation::ADD, Operand::memory(Base::BX, 0).word(), 5);
     let bytes = encode(&add, 256)?;
     println!("encoded: {bytes}");
+    println!("{}", form(&add, 256)?);
     println!("read: {}", read(&bytes, 256)?);
     println!("listed: {}", list(&add, 256)?.len());
     print!("{}", list(&add, 256)?);
@@ -13,6 +14,9 @@ fn main() -> Result<(), Refusal> {
     let mov = Instruction::two(Operation::MOV, Operand::memory(Base::BX, 0).byte(), 300);
     if let Err(refusal) = encode(&mov, 256) {
         println!("refused: {}, {}", refusal.number(), refusal.reason);
+        if let Some(question) = refusal.question() {
+            println!("question {question}");
+        }
     }
     Ok(())
 }

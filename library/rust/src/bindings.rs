@@ -21,6 +21,15 @@ extern "C" {
         report: *mut u8,
         report_len: usize,
     ) -> u8;
+    pub fn fsq_form(
+        record: *const u8,
+        record_len: usize,
+        offset: u16,
+        out: *mut u8,
+        out_len: usize,
+        report: *mut u8,
+        report_len: usize,
+    ) -> u8;
     pub fn fsq_read(bytes: *const u8, bytes_len: usize, offset: u16, out: *mut u8, out_len: usize) -> u8;
     pub fn fsq_load(file: *const u8, file_len: usize, image: *mut u8, image_len: usize, report: *mut u8, report_len: usize) -> u8;
 }
@@ -50,6 +59,7 @@ pub const FSQ_STRING_LENGTH: usize = 7;
 pub const FSQ_READING_LENGTH: usize = 24;
 pub const FSQ_ENTRY_LENGTH: usize = 8;
 pub const FSQ_LIST_LENGTH: usize = 96;
+pub const FSQ_FORM_LENGTH: usize = 64;
 pub const FSQ_HEADER_LENGTH: usize = 9;
 pub const FSQ_OPERAND_LENGTH: usize = 23;
 pub const FSQ_IMAGE_LENGTH: usize = 7000;

@@ -113,7 +113,7 @@ impl fmt::Debug for Bytes {
 /// // Document 01's bench sheet: JE at 256 to 130 is 74 80, and to 129 refused with 6.
 /// assert_eq!(encode(&Instruction::one(Operation::JE, 130), 256)?, [0x74, 0x80]);
 /// let refusal = encode(&Instruction::one(Operation::JE, 129), 256).unwrap_err();
-/// assert_eq!(refusal.to_string(), "refusal 6: the target is -129 bytes away, outside -128..127");
+/// assert_eq!(refusal.to_string(), "refusal 6 (question 7): the target is -129 bytes away, outside -128..127");
 /// # Ok::<(), fsq::Refusal>(())
 /// ```
 pub fn encode(instruction: &Instruction, offset: u16) -> Result<Bytes, Refusal> {

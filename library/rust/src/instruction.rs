@@ -107,7 +107,7 @@ impl Instruction {
     /// # Ok::<(), fsq::Refusal>(())
     /// ```
     pub fn from_record(record: &[u8]) -> Result<Instruction, Refusal> {
-        let refused = |reason, found| Err(Refusal { reason, span: None, record: None, found: Some(found) });
+        let refused = |reason, found| Err(Refusal { reason, span: None, record: None, found: Some(found), question: None });
         if record.len() != RECORD_LENGTH {
             return refused(Reason::WrongLength, Found::RecordLength(record.len()));
         }

@@ -13,7 +13,7 @@
 //! # Ok::<(), fsq::Refusal>(())
 //! ```
 //!
-//! A refusal says what is wrong in words, and has the number, the span and the values for a program:
+//! A refusal says what is wrong in words, and has the number, the question, the span and the values for a program:
 //!
 //! ```
 //! use fsq::{encode, Base, Instruction, Operand, Operation, Reason};
@@ -23,7 +23,18 @@
 //! let refusal = encode(&mov, 0).unwrap_err();
 //! assert_eq!(refusal.number(), 5);
 //! assert_eq!(refusal.reason, Reason::ImmediateOutOfRange { value: 300, low: -128, high: 255 });
-//! assert_eq!(refusal.to_string(), "refusal 5: value 300 is outside -128..255");
+//! assert_eq!(refusal.to_string(), "refusal 5 (question 6): value 300 is outside -128..255");
+//! ```
+//!
+//! [`form`] tells by which form an instruction is written, and a refusal the question that refuses it:
+//!
+//! ```
+//! use fsq::{form, Instruction, Operation, Register};
+//!
+//! // Document 02, No. 3.
+//! let mov = form(&Instruction::two(Operation::MOV, Register::BX, 5), 0)?;
+//! assert_eq!(mov.to_string(), "form BB Reg:Word Imm:Unspecified -32768..65535");
+//! # Ok::<(), fsq::Refusal>(())
 //! ```
 //!
 //! The functions keep nothing between calls, and several threads may call them at once. They are proved; the text of instructions and operands
@@ -41,6 +52,7 @@ extern crate alloc;
 
 mod bindings;
 mod encoding;
+mod form;
 mod instruction;
 // The only place that calls C.
 #[allow(unsafe_code)]
@@ -54,6 +66,7 @@ mod show;
 mod text;
 
 pub use encoding::{encode, encode_record, Bytes};
+pub use form::{form, form_record, Form};
 pub use instruction::{Instruction, RECORD_LENGTH};
 pub use listing::{list, list_record, List};
 pub use operand::{Base, Jump, Operand, Register, Segment, Size, Span};

@@ -4,11 +4,11 @@
 //! functions write nothing outside of them, and only what a call's contract says.
 
 use crate::bindings::{
-    fsq_encode, fsq_list, fsq_load, fsq_read, FSQ_DONE, FSQ_NO_RECORD, FSQ_READING_LENGTH, FSQ_REPORT_HIGH_AT, FSQ_REPORT_LENGTH,
-    FSQ_REPORT_LENGTH_AT, FSQ_REPORT_LOW_AT, FSQ_REPORT_RECORD_AT, FSQ_REPORT_SPAN_END_AT, FSQ_REPORT_SPAN_START_AT, FSQ_REPORT_VALUE_AT,
-    FSQ_SLICE_TOO_SHORT,
+    fsq_encode, fsq_form, fsq_list, fsq_load, fsq_read, FSQ_DONE, FSQ_FORM_LENGTH, FSQ_HEADER_LENGTH, FSQ_NO_RECORD, FSQ_READING_LENGTH,
+    FSQ_RECORD_LENGTH, FSQ_REPORT_HIGH_AT, FSQ_REPORT_LENGTH, FSQ_REPORT_LENGTH_AT, FSQ_REPORT_LOW_AT, FSQ_REPORT_RECORD_AT,
+    FSQ_REPORT_SPAN_END_AT, FSQ_REPORT_SPAN_START_AT, FSQ_REPORT_VALUE_AT, FSQ_SLICE_TOO_SHORT, FSQ_STRING_LENGTH,
 };
-use crate::refusal::{Found, Reason, Refusal};
+use crate::refusal::{question_of, Found, Reason, Refusal};
 
 type Report = [u8; FSQ_REPORT_LENGTH];
 
@@ -18,7 +18,7 @@ pub fn encode(record: &[u8], offset: u16, out: &mut [u8]) -> Result<usize, Refus
     // SAFETY: live slices, of which the two that are written overlap with nothing.
     let number =
         unsafe { fsq_encode(record.as_ptr(), record.len(), offset, out.as_mut_ptr(), out.len(), report.as_mut_ptr(), report.len()) };
-    answered(number, &report, |_| Found::in_record(number, record))
+    answered(number, &report, |refusal| of_record(refusal, record))
 }
 
 /// The number of entries at the front of out.
@@ -26,7 +26,26 @@ pub fn list(record: &[u8], offset: u16, out: &mut [u8]) -> Result<usize, Refusal
     let mut report = [0; FSQ_REPORT_LENGTH];
     // SAFETY: as in encode.
     let number = unsafe { fsq_list(record.as_ptr(), record.len(), offset, out.as_mut_ptr(), out.len(), report.as_mut_ptr(), report.len()) };
-    answered(number, &report, |_| Found::in_record(number, record))
+    answered(number, &report, |refusal| of_record(refusal, record))
+}
+
+/// The length of the form's line at the front of out, without its line feed.
+pub fn form(record: &[u8], offset: u16, out: &mut [u8; FSQ_FORM_LENGTH]) -> Result<u8, Refusal> {
+    let mut report = [0; FSQ_REPORT_LENGTH];
+    // SAFETY: as in encode.
+    let number = unsafe { fsq_form(record.as_ptr(), record.len(), offset, out.as_mut_ptr(), out.len(), report.as_mut_ptr(), report.len()) };
+    let length = answered(number, &report, |refusal| of_record(refusal, record))? - 1;
+    match out[..length].strip_prefix(b"question ") {
+        Some(question) => Err(refused_by(question, record, offset)),
+        None => Ok(length as u8),
+    }
+}
+
+/// The refusal of a record that a question refuses: span and values are the encoder's.
+#[cold]
+fn refused_by(question: &[u8], record: &[u8], offset: u16) -> Refusal {
+    let refusal = encode(record, offset, &mut [0; FSQ_STRING_LENGTH]).expect_err("a record with a question is refused");
+    Refusal { question: question.first().map(|digit| digit - b'0'), ..refusal }
 }
 
 /// The read instruction.
@@ -36,7 +55,7 @@ pub fn read(bytes: &[u8], offset: u16) -> Result<[u8; FSQ_READING_LENGTH], Refus
     let number = unsafe { fsq_read(bytes.as_ptr(), bytes.len(), offset, out.as_mut_ptr(), out.len()) };
     match number {
         FSQ_DONE => Ok(out),
-        _ => Err(Refusal { reason: Reason::of(number, 0, 0, 0), span: None, record: None, found: None }),
+        _ => Err(Refusal { reason: Reason::of(number, 0, 0, 0), span: None, record: None, found: None, question: None }),
     }
 }
 
@@ -45,21 +64,31 @@ pub fn load(file: &[u8], image: &mut [u8]) -> Result<usize, Refusal> {
     let mut report = [0; FSQ_REPORT_LENGTH];
     // SAFETY: as in encode.
     let number = unsafe { fsq_load(file.as_ptr(), file.len(), image.as_mut_ptr(), image.len(), report.as_mut_ptr(), report.len()) };
-    answered(number, &report, |record| Found::in_file(number, record, file))
+    answered(number, &report, |refusal| {
+        let at = |record: u32| FSQ_HEADER_LENGTH + FSQ_RECORD_LENGTH * record as usize;
+        let record = refusal.record.and_then(|record| file.get(at(record)..at(record + 1)));
+        Refusal { found: Found::in_file(number, record, file), question: record.and_then(|record| question_of(number, record)), ..refusal }
+    })
 }
 
 fn field(report: &Report, at: usize) -> u32 {
     u32::from_le_bytes([report[at], report[at + 1], report[at + 2], report[at + 3]])
 }
 
-/// The length, or the refusal with what is found in its input.
+/// The length, or the refusal with what its input says of it.
 #[inline]
-fn answered(number: u8, report: &Report, found: impl Fn(Option<u32>) -> Option<Found>) -> Result<usize, Refusal> {
+fn answered(number: u8, report: &Report, with_input: impl Fn(Refusal) -> Refusal) -> Result<usize, Refusal> {
     if number == FSQ_DONE {
         return Ok(field(report, FSQ_REPORT_LENGTH_AT) as usize);
     }
-    let refusal = refused(number, report);
-    Err(Refusal { found: found(refusal.record), ..refusal })
+    Err(with_input(refused(number, report)))
+}
+
+/// The refusal with what its record says of it.
+#[cold]
+fn of_record(refusal: Refusal, record: &[u8]) -> Refusal {
+    let number = refusal.number();
+    Refusal { found: Found::in_record(number, record), question: question_of(number, record), ..refusal }
 }
 
 #[cold]
@@ -71,5 +100,6 @@ fn refused(number: u8, report: &Report) -> Refusal {
         span: (number <= FSQ_SLICE_TOO_SHORT).then(|| field(FSQ_REPORT_SPAN_START_AT)..field(FSQ_REPORT_SPAN_END_AT)),
         record: Some(field(FSQ_REPORT_RECORD_AT)).filter(|&record| record != FSQ_NO_RECORD),
         found: None,
+        question: None,
     }
 }

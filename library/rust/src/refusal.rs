@@ -94,7 +94,7 @@ impl Found {
     }
 
     /// What a file has that is refused with this number, at this record.
-    pub(crate) fn in_file(number: u8, record: Option<u32>, file: &[u8]) -> Option<Found> {
+    pub(crate) fn in_file(number: u8, record: Option<&[u8]>, file: &[u8]) -> Option<Found> {
         let field = |at: usize| Some(u16::from_le_bytes([*file.get(at)?, *file.get(at + 1)?]));
         match (number, record) {
             (FSQ_WRONG_VERSION, _) => field(FSQ_HEADER_VERSION_AT).map(Found::Version),
@@ -106,10 +106,7 @@ impl Found {
                     Found::FileLength { length: file.len(), expected: FSQ_HEADER_LENGTH + FSQ_RECORD_LENGTH * usize::from(count) }
                 }
             }),
-            (FSQ_UNKNOWN_CODE, Some(record)) => {
-                let at = FSQ_HEADER_LENGTH + FSQ_RECORD_LENGTH * record as usize;
-                Found::unknown_code(file.get(at..at + FSQ_RECORD_LENGTH)?)
-            }
+            (FSQ_UNKNOWN_CODE, Some(record)) => Found::unknown_code(record),
             _ => None,
         }
     }
@@ -166,6 +163,7 @@ pub struct Refusal {
     pub record: Option<u32>,
     /// What the input has, for the reasons 13 to 15.
     pub found: Option<Found>,
+    pub(crate) question: Option<u8>,
 }
 
 impl Refusal {
@@ -173,6 +171,38 @@ impl Refusal {
     pub fn number(&self) -> u8 {
         self.reason.number()
     }
+
+    /// The question whose answer is no, 1 to 8 (REFERENCE 5), for the reasons 1 to 9. Its number is not the reason's.
+    ///
+    /// ```
+    /// use fsq::{encode, Instruction, Operand, Operation};
+    ///
+    /// // Document 02, No. 3: POP of an immediate that states Word is question 5's, of another question 3's.
+    /// let refusal = |operand: Operand| encode(&Instruction::one(Operation::POP, operand), 0).unwrap_err();
+    /// let (word, unstated) = (refusal(Operand::from(5).word()), refusal(5.into()));
+    /// assert_eq!((word.number(), word.question()), (4, Some(5)));
+    /// assert_eq!((unstated.number(), unstated.question()), (4, Some(3)));
+    /// ```
+    pub fn question(&self) -> Option<u8> {
+        self.question
+    }
+}
+
+/// The question of a refusal by REFERENCE 5's table, so that it costs no call. The number says it but for 4, where the record does: question 3 asks
+/// whether its first operand states Word, or any size, and 5 comes behind it.
+pub(crate) fn question_of(number: u8, record: &[u8]) -> Option<u8> {
+    Some(match number {
+        FSQ_NOT_WELL_FORMED => 1,
+        FSQ_NOT_SUPPORTED => 2,
+        FSQ_OPERAND_SIZE_NOT_SPECIFIED => 3,
+        FSQ_INVALID_OPERAND_SIZE if record.get(FSQ_FIRST_AT + FSQ_SIZE_AT) != Some(&FSQ_WORD) => 3,
+        FSQ_OPERAND_SIZES_DO_NOT_MATCH => 4,
+        FSQ_INVALID_OPERAND_SIZE | FSQ_INVALID_OPERANDS => 5,
+        FSQ_IMMEDIATE_OUT_OF_RANGE => 6,
+        FSQ_RELATIVE_JUMP_OUT_OF_RANGE => 7,
+        FSQ_SLICE_TOO_SHORT => 8,
+        _ => return None,
+    })
 }
 
 impl Reason {
@@ -244,12 +274,15 @@ impl fmt::Display for Reason {
     }
 }
 
-/// Its number, the record, what is wrong, the value and its limits: `refusal 5 of record 3: value 300 is outside -128..255`.
+/// Its number, the record, the question, what is wrong, the value and its limits: `refusal 5 of record 3 (question 6): value 300 is outside -128..255`.
 impl fmt::Display for Refusal {
     fn fmt(&self, f: &mut fmt::Formatter<'_>) -> fmt::Result {
         write!(f, "refusal {}", self.number())?;
         if let Some(record) = self.record {
             write!(f, " of record {record}")?;
+        }
+        if let Some(question) = self.question {
+            write!(f, " (question {question})")?;
         }
         match &self.found {
             Some(found) => write!(f, ": {found}"),

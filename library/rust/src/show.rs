@@ -60,7 +60,7 @@ pub fn show_file(origin: u16, instructions: &[Instruction]) -> Vec<u8> {
 /// // Its bench sheet: MOV byte [BX],300 is 5.
 /// show.push(Instruction::two(Operation::MOV, Operand::memory(Base::BX, 0).byte(), 300));
 /// let refusal = load(&show_file(256, &show)).unwrap_err();
-/// assert_eq!(refusal.to_string(), "refusal 5 of record 3: value 300 is outside -128..255");
+/// assert_eq!(refusal.to_string(), "refusal 5 of record 3 (question 6): value 300 is outside -128..255");
 /// # Ok::<(), fsq::Refusal>(())
 /// ```
 #[cfg(feature = "alloc")]

@@ -96,35 +96,39 @@ fn an_image() {
 fn refusals() {
     let at_bx = || Operand::memory(Base::BX, 0);
     let rows = [
-        (Instruction::one(POP, Segment::CS), 1, "the operation does not take these operands"),
-        (Instruction::one(NOT, at_bx()), 2, "byte or word is not said"),
-        (Instruction::two(ADD, AX, CL), 3, "one operand is a byte and the other a word"),
-        (Instruction::one(INC, at_bx()), 4, "the operation does not take an operand of this size"),
-        (Instruction::two(ADD, AX, 70000), 5, "value 70000 is outside -32768..65535"),
-        (Instruction::two(MOV, at_bx().byte(), 300), 5, "value 300 is outside -128..255"),
-        (Instruction::one(JE, 130), 6, "the target is 128 bytes away, outside -128..127"),
-        (Instruction::none(INT1), 7, "the encoder does not have this instruction"),
-        (Instruction::none(ESC), 7, "the encoder does not have this instruction"),
-        (Instruction::two(MOV, AX, Operand::memory(Base::BX, 65536)), 8, "the fields of the record contradict each other"),
+        (Instruction::one(POP, Segment::CS), 1, 5, "the operation does not take these operands"),
+        (Instruction::one(NOT, at_bx()), 2, 3, "byte or word is not said"),
+        (Instruction::two(ADD, AX, CL), 3, 4, "one operand is a byte and the other a word"),
+        (Instruction::one(INC, at_bx()), 4, 3, "the operation does not take an operand of this size"),
+        (Instruction::two(ADD, AX, 70000), 5, 6, "value 70000 is outside -32768..65535"),
+        (Instruction::two(MOV, at_bx().byte(), 300), 5, 6, "value 300 is outside -128..255"),
+        (Instruction::one(JE, 130), 6, 7, "the target is 128 bytes away, outside -128..127"),
+        (Instruction::none(INT1), 7, 2, "the encoder does not have this instruction"),
+        (Instruction::none(ESC), 7, 2, "the encoder does not have this instruction"),
+        (Instruction::two(MOV, AX, Operand::memory(Base::BX, 65536)), 8, 1, "the fields of the record contradict each other"),
         // Document 02, No. 1.
-        (Instruction::two(TEST, BL, 300), 5, "value 300 is outside -128..255"),
-        (Instruction::two(TEST, at_bx().word(), 65536), 5, "value 65536 is outside -32768..65535"),
-        (Instruction::one(PUSH, at_bx().byte()), 1, "the operation does not take these operands"),
-        (Instruction::one(PUSH, at_bx()), 1, "the operation does not take these operands"),
-        (Instruction::one(POP, at_bx()), 4, "the operation does not take an operand of this size"),
-        (Instruction::one(RET, 65536), 5, "value 65536 is outside 0..65535"),
-        (Instruction::one(RET, AX), 1, "the operation does not take these operands"),
-        (Instruction::one(CALL, at_bx().byte().jump(Jump::Far)), 1, "the operation does not take these operands"),
-        (Instruction::one(JMP, Operand::from(65536).jump(Jump::Short)), 5, "value 65536 is outside 0..65535"),
-        (Instruction::one(JMP, Operand::from(130).jump(Jump::Short)), 6, "the target is 128 bytes away, outside -128..127"),
+        (Instruction::two(TEST, BL, 300), 5, 6, "value 300 is outside -128..255"),
+        (Instruction::two(TEST, at_bx().word(), 65536), 5, 6, "value 65536 is outside -32768..65535"),
+        (Instruction::one(PUSH, at_bx().byte()), 1, 5, "the operation does not take these operands"),
+        (Instruction::one(PUSH, at_bx()), 1, 5, "the operation does not take these operands"),
+        (Instruction::one(POP, at_bx()), 4, 3, "the operation does not take an operand of this size"),
+        (Instruction::one(RET, 65536), 5, 6, "value 65536 is outside 0..65535"),
+        (Instruction::one(RET, AX), 1, 5, "the operation does not take these operands"),
+        (Instruction::one(CALL, at_bx().byte().jump(Jump::Far)), 1, 5, "the operation does not take these operands"),
+        (Instruction::one(JMP, Operand::from(65536).jump(Jump::Short)), 5, 6, "value 65536 is outside 0..65535"),
+        (Instruction::one(JMP, Operand::from(130).jump(Jump::Short)), 6, 7, "the target is 128 bytes away, outside -128..127"),
     ];
-    for (instruction, number, text) in rows {
+    for (instruction, number, question, text) in rows {
         let refusal = encode(&instruction, 0).unwrap_err();
-        assert_eq!((refusal.number(), refusal.to_string()), (number, format!("refusal {number}: {text}")), "{instruction:?}");
+        assert_eq!(
+            (refusal.number(), refusal.to_string()),
+            (number, format!("refusal {number} (question {question}): {text}")),
+            "{instruction:?}"
+        );
         assert_eq!(list(&instruction, 0).unwrap_err(), refusal);
         // Behind a NOP at 65,535 it stands at 0 again.
         let of_record = load(&show_file(65535, &[Instruction::none(NOP), instruction])).unwrap_err();
-        assert_eq!(of_record.to_string(), format!("refusal {number} of record 1: {text}"));
+        assert_eq!(of_record.to_string(), format!("refusal {number} of record 1 (question {question}): {text}"));
         assert_eq!((of_record.reason, of_record.record), (refusal.reason, Some(1)));
     }
 }

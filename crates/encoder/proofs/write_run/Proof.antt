@@ -7,7 +7,7 @@ use native.Mathlib.Numerals.{add-one}
 use denote.Ref.{now}
 use borrow.Author.Needs.{needs}
 use borrow.Author.Tests.{le-leb, lt-leb}
-use Rattle.encoder.proofs.Laws.{copied-more}
+use Rattle.base_values.proofs.Copies.{copied-more}
 use Rattle.encoder.proofs.write_run.Statement.{statement}
 use Rattle.encoder.proofs.write_run.Tie as tie
 

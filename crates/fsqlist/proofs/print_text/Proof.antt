@@ -16,14 +16,14 @@ enum-known-listed c = search needs
 
 slice-reshare-prefix-write-all : tie.Need-slice-reshare-prefix-write-all
 slice-reshare-prefix-write-all c =
-    let fits = listed-fits _ _ _ (sym (c .before .before .before .before .before .write-text .ensures .0) ∙ c .before .listed .given .1) in
+    let fits = listed-fits _ _ _ _ (sym (c .before .before .before .before .before .write-text .ensures .0) ∙ c .before .listed .given .1) in
     omega arith
 
 slice-aggregate-write-all : tie.Need-slice-aggregate-write-all
 slice-aggregate-write-all c =
     let n = c .before .before .listed .given .0 .0 in
     let out = c .before .before .before .before .before .before .write-text .last .1 .0 in
-    let fits = listed-fits _ _ _ (sym (c .before .before .before .before .before .before .write-text .ensures .0) ∙ c .before .before .listed .given .1) in
+    let fits = listed-fits _ _ _ _ (sym (c .before .before .before .before .before .before .write-text .ensures .0) ∙ c .before .before .listed .given .1) in
     let within : n ≤ length out = omega arith in
     sym (length-take-le n out within)
 

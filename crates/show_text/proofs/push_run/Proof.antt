@@ -3,9 +3,9 @@ use Prim.Native.Nat.{_≤_, _-_}
 use lib.ListN.{length, take}
 use native.Mathlib.Omega.{arith}
 use borrow.Author.Needs.{needs}
-use Rattle.show_text.specs.Text.{hexBytes}
-use Rattle.show_text.specs.Steps.{appended}
-use Rattle.show_text.proofs.Laws.{run-more}
+use Rattle.text_line.specs.Numbers.{hexBytes}
+use Rattle.text_line.specs.Steps.{appended}
+use Rattle.text_line.proofs.Laws.{run-more}
 use Rattle.show_text.proofs.push_run.Statement.{statement}
 use Rattle.show_text.proofs.push_run.Tie as tie
 

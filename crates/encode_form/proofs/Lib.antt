@@ -1,0 +1,4 @@
+pub mod Questions
+pub mod Found
+pub mod Grounds
+pub mod Cases

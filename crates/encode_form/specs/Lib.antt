@@ -1,0 +1,3 @@
+pub mod Ground
+pub mod ByBytes
+pub mod Grounds

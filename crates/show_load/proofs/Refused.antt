@@ -1,0 +1,106 @@
+-- A file whose record is refused: the file itself is in order, and that record, at its own offset, is the one refused.
+-- Assumes nothing.
+use mathlib.Core.Path.{_≡_, refl, sym, _∙_, ap}
+use mathlib.Core.Bool.{Bool, true, false}
+use mathlib.Core.List.{List}
+use Prim.Native.Nat.{ℕ, zero, suc, _<_}
+use native.Mathlib.Omega.{arith}
+use lib.Dec.{eqb, ltb, leb}
+use lib.ListN.{length}
+use Rattle.mrc_compiler.specs.declared.encoder.EncodeError.{EncodeError}
+use Rattle.mrc_compiler.specs.Choose.{pick, both}
+use Rattle.encode_spec.specs.Answer.{Answer, bytes, refused}
+use Rattle.show_file.specs.declared.Header.{Header}
+use Rattle.show_file.specs.declared.LoadError.{LoadError}
+use Rattle.show_file.specs.declared.LoadError.the-variants as LE
+use Rattle.show_file.specs.declared.Opened.{Opened}
+use Rattle.show_file.specs.declared.Opened.the-variants as O
+use Rattle.show_file.specs.Show.{headerLength, knownVersion, mostRecords, hasMark, header, recordPlace, headed, opened, firstUnknown}
+use Rattle.show_load.specs.declared.Loaded.{Loaded}
+use Rattle.show_load.specs.declared.Loaded.the-variants as L
+use Rattle.show_load.specs.Loading.{Walk, all, stopped, answerAt, followed, further, walk, bytesIn, measured, showAccepted, acceptedBy, accepted}
+use Rattle.show_load.proofs.Laws.{Exact, opened-exact}
+
+-- ---- a walk stops at the record that is refused behind the bytes of those before it
+pub record Stops (file : List ℕ) (origin n k : ℕ) (e : EncodeError) : Type 0 where
+  pub below : k < n
+  pub refuses : answerAt file origin k (length (bytesIn (walk file origin k))) ≡ refused e
+
+walk-stops : (file : List ℕ) (origin n k : ℕ) (e : EncodeError) → walk file origin n ≡ stopped k e → Stops file origin n k e
+unfolding walk
+walk-stops file origin zero k e q = let z : _≡_ {A = ℕ} 0 1 = cc in absurd (omega arith)
+walk-stops file origin (suc n) k e q = go (walk file origin n) refl (λ h. walk-stops file origin n k e h) q
+  where
+    at-last : (bs : List ℕ) (a : Answer) → walk file origin n ≡ all bs → answerAt file origin n (length bs) ≡ a → followed n bs a ≡ stopped k e → Stops file origin (suc n) k e
+    at-last bs (bytes cs) w h r = let z : _≡_ {A = ℕ} 0 1 = cc in absurd (omega arith)
+    at-last bs (refused x) w h r =
+        let same : n ≡ k = cc in
+        let its : x ≡ e = cc in
+        rw (← same) (record { below = omega arith; refuses = rw w (h ∙ ap refused its) })
+
+    go : (w : Walk) → walk file origin n ≡ w → (walk file origin n ≡ stopped k e → Stops file origin n k e) → further file origin n w ≡ stopped k e
+        → Stops file origin (suc n) k e
+    go (all bs) h rest r = at-last bs (answerAt file origin n (length bs)) h refl r
+    go (stopped i x) h rest r = let s = rest (h ∙ r) in record { below = omega (arith, s .below); refuses = s .refuses }
+
+-- ---- the file
+pub record RefusedAt (file : List ℕ) (k : ℕ) (e : EncodeError) : Type 0 where
+  pub exact : Exact file (header file)
+  pub stops : Stops file (header file .origin) (header file .count) k e
+
+module _ (file : List ℕ) (k : ℕ) (e : EncodeError) where
+  -- no question about the file itself names a record
+  no-record : opened file ≡ O.Refused (LE.Record k e) → ⊥
+  unfolding opened headed
+  no-record =
+      go (hasMark file) (leb headerLength (length file)) (eqb (header file .version) knownVersion)
+      (both (leb (header file .count) mostRecords) (eqb (length file) (recordPlace (header file .count))))
+    where
+      go : (a b c d : Bool)
+          → pick a (pick b (pick c (pick d (O.Show (header file)) (O.Refused LE.WrongLength)) (O.Refused LE.WrongVersion)) (O.Refused LE.WrongLength)) (O.Refused LE.NoMark)
+          ≡ O.Refused (LE.Record k e) → ⊥
+      go true true true true q = let z : _≡_ {A = ℕ} 0 1 = cc in omega arith
+      go true true true false q = let z : _≡_ {A = ℕ} 0 1 = cc in omega arith
+      go true true false d q = let z : _≡_ {A = ℕ} 0 1 = cc in omega arith
+      go true false c d q = let z : _≡_ {A = ℕ} 0 1 = cc in omega arith
+      go false b c d q = let z : _≡_ {A = ℕ} 0 1 = cc in omega arith
+
+  -- a show has the header of its file
+  its-header : (h : Header) → opened file ≡ O.Show h → header file ≡ h
+  unfolding opened headed
+  its-header h =
+      go (hasMark file) (leb headerLength (length file)) (eqb (header file .version) knownVersion)
+      (both (leb (header file .count) mostRecords) (eqb (length file) (recordPlace (header file .count))))
+    where
+      go : (a b c d : Bool)
+          → pick a (pick b (pick c (pick d (O.Show (header file)) (O.Refused LE.WrongLength)) (O.Refused LE.WrongVersion)) (O.Refused LE.WrongLength)) (O.Refused LE.NoMark)
+          ≡ O.Show h → header file ≡ h
+      go true true true true q = cc
+      go true true true false q = let z : _≡_ {A = ℕ} 0 1 = cc in absurd (omega arith)
+      go true true false d q = let z : _≡_ {A = ℕ} 0 1 = cc in absurd (omega arith)
+      go true false c d q = let z : _≡_ {A = ℕ} 0 1 = cc in absurd (omega arith)
+      go false b c d q = let z : _≡_ {A = ℕ} 0 1 = cc in absurd (omega arith)
+
+  measured-stops : (h : Header) (w : Walk) → measured h w ≡ L.Refused (LE.Record k e) → w ≡ stopped k e
+  measured-stops h (all bs) q = let z : _≡_ {A = ℕ} 0 1 = cc in absurd (omega arith)
+  measured-stops h (stopped i x) q = cc
+
+  show-refused : opened file ≡ O.Show (header file) → showAccepted file (header file) ≡ L.Refused (LE.Record k e) → RefusedAt file k e
+  unfolding showAccepted
+  show-refused o = go (ltb (firstUnknown file (header file .count)) (header file .count))
+    where
+      go : (b : Bool) → pick b (L.Refused (LE.UnknownCode (firstUnknown file (header file .count)))) (measured (header file) (walk file (header file .origin) (header file .count)))
+          ≡ L.Refused (LE.Record k e) → RefusedAt file k e
+      go true q = let z : _≡_ {A = ℕ} 0 1 = cc in absurd (omega arith)
+      go false q =
+          record {
+            exact = opened-exact file (header file) o;
+            stops = walk-stops file (header file .origin) (header file .count) k e (measured-stops (header file) _ q);
+          }
+
+  pub refused-at : accepted file ≡ L.Refused (LE.Record k e) → RefusedAt file k e
+  refused-at = go (opened file) refl
+    where
+      go : (o : Opened) → opened file ≡ o → acceptedBy file o ≡ L.Refused (LE.Record k e) → RefusedAt file k e
+      go (O.Show h) o q = let s = its-header h o in show-refused (rw s o) (rw s q)
+      go (O.Refused x) o q = let z : x ≡ LE.Record k e = cc in absurd (no-record (rw z at o))
