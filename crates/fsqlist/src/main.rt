@@ -13,7 +13,7 @@ fn print_text(file: &[u8], out: &mut [u8]) -> bool {
 
 // The buffer is longer than any show file, so that of an input that does not fit the length is still wrong.
 fn main() {
-    if !input::called_alone(b"usage: fsqlist < SHOW.fsq\n") {
+    if !input::called_alone(os::arg_count(), b"usage: fsqlist < SHOW.fsq\n") {
         return;
     }
     let mut space = io::large_buffer();
