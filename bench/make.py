@@ -12,7 +12,7 @@ import sys
 
 sys.path.insert(0, str(pathlib.Path(__file__).resolve().parent.parent / 'tools'))
 from operations import (
-    BYTE, FAR, HEADER, IMM, MARK, MEM, NEAR, OPERAND, OPERATIONS, PREFIXES, RECORD, REG, SEG, SHORT, VERSION, WORD, NO_KIND as NONE, UNSPECIFIED as ANY)
+    BYTE, FAR, HEADER, IMM, MARK, MEM, NEAR, OPERAND, OPERATIONS, PREFIXES, RECORD, REG, SEG, SHORT, WORD, NO_KIND as NONE, UNSPECIFIED as ANY, version_of)
 
 ORIGIN = 256
 
@@ -256,7 +256,7 @@ def main():
             if operand[7] is None:
                 near = length == 3
                 operand[7] = random.one_of([start for start in starts if near or -128 <= start - (offset + length) <= 127])
-    sys.stdout.buffer.write(MARK + HEADER.pack(VERSION, ORIGIN, len(records)))
+    sys.stdout.buffer.write(MARK + HEADER.pack(version_of(len(records)), ORIGIN, len(records)))
     for place, (operation, operands, _) in enumerate(records):
         sys.stdout.buffer.write(pack(place, operation, operands))
 

@@ -12,7 +12,7 @@ import bindings
 import operations as scripts
 
 ROOT = pathlib.Path(__file__).resolve().parent.parent
-OPERATIONS, REFUSALS = 99, 15
+OPERATIONS, REFUSALS, VERSIONS = 99, 15, 2
 failures = []
 
 
@@ -78,7 +78,8 @@ def source():
     code = {name: Text(f'crates/{path}.rt') for name, path in dict(
         operations='mrc_compiler/src/operations', data='mrc_compiler/src/encoder/mod', ast='mrc_compiler/src/ast', record='show_record/src/lib', file='show_file/src/lib',
         report='foreign_report/src/lib', read='foreign/src/read', encode='foreign/src/encode', load='foreign/src/load', operands='x86/src/operands', reader='reader/src/lib',
-        slots='read_slots/src/lib', run='encode_run/src/lib', lister='lister/src/lib', entries='list_entries/src/lib', form='text_form/src/lib', ground='encode_form/src/lib').items()}
+        slots='read_slots/src/lib', run='encode_run/src/lib', lister='lister/src/lib', entries='list_entries/src/lib', form='text_form/src/lib', ground='encode_form/src/lib',
+        text='show_text/src/lib').items()}
     s = {}
 
     def twice(what, text, given, expected):
@@ -137,7 +138,13 @@ def source():
     s['mark'] = bytes(int(v, 0) for v in text.all(r'byte_at\(file, [0-2]\) [!=]= (0x\w\w)', 3))
     entries, string = code['lister'].number(r'let mut keys: \[u64; (\d+)\]'), code['run'].number(r'pub bytes: \[u8; (\d+)\]')
     entry, most = code['entries'].number(r'let at = (\d+) \* n;'), text.number(r'const MOST_RECORDS: u16 = (\d+);')
-    s['limit'] = {'MOST_RECORDS': most, 'MOST_ENTRIES': entries, 'FILE_VERSION': text.number(r'if version != (\d+) ')}
+    s['version'] = {int(n): (int(fewest), int(highest)) for n, fewest, highest in text.part(r'fn counts_of\(').all(r'(\d+) => Counts::Between\((\d+), (\d+)\),', VERSIONS)}
+    short, long = sorted(s['version'])
+    s['limit'] = {'MOST_RECORDS': most, 'SHORT_RECORDS': s['version'][short][1], 'MOST_ENTRIES': entries, 'FILE_VERSION': short, 'LONG_VERSION': long}
+    # A count is of one version: so the header says both by SHORT_RECORDS, which is the text programs' limit too.
+    twice('version', text, s['version'], {short: (0, s['limit']['SHORT_RECORDS']), long: (s['limit']['SHORT_RECORDS'] + 1, most)})
+    s['text'] = code['text'].numbers(r'const (TEXT_RECORDS|MOST_TEXT|MOST_FORMS): \w+ = (\d+);', 3)
+    twice('text', code['text'], {'TEXT_RECORDS': s['text'].get('TEXT_RECORDS')}, {'TEXT_RECORDS': s['limit']['SHORT_RECORDS']})
     header = text.number(r'const HEADER_LENGTH: usize = (\d+);')
     s['length'] = {'RECORD_LENGTH': values['RECORD_LENGTH'], 'OPERAND_LENGTH': values['OPERAND_LENGTH'], 'HEADER_LENGTH': header,
         'REPORT_LENGTH': code['report'].number(r'if report\.len\(\) < (\d+) '), 'READING_LENGTH': code['read'].number(r'if out\.len\(\) < (\d+) '),
@@ -194,7 +201,7 @@ def header(s):
     place = 'library/include/fsq.h'
     enums = bindings.enums((ROOT / place).read_text())
     count = 0
-    for enum in sorted(enums.keys() | s.keys() - {'mark', 'define', 'prefix', 'question'}):
+    for enum in sorted(enums.keys() | s.keys() - {'mark', 'define', 'prefix', 'question', 'version', 'text'}):
         count += compare(enum, place, enums.get(enum, {}), s.get(enum, {}), 'FSQ_')
     text = Text(place)
     compare('define', place, text.numbers(r'#define FSQ_(NO_RECORD) (\d+)u', 1), s['define'], 'FSQ_')
@@ -266,17 +273,22 @@ def python(s):
         count += compare(enum, place, given, s[enum])
     lengths = {'HEADER_LENGTH': len(scripts.MARK) + scripts.HEADER.size, 'OPERAND_LENGTH': scripts.OPERAND.size, 'RECORD_LENGTH': scripts.SECOND + scripts.OPERAND.size}
     count += compare('length', place, lengths, {name: s['length'][name] for name in lengths})
-    limits = {'MOST_RECORDS': scripts.MOST_RECORDS, 'FILE_VERSION': scripts.VERSION}
-    count += compare('limit', place, limits, {name: s['limit'][name] for name in limits})
+    count += compare('version', place, scripts.VERSIONS, s['version'])
+    count += compare('text', place, {'TEXT_RECORDS': scripts.TEXT_RECORDS}, {'TEXT_RECORDS': s['text']['TEXT_RECORDS']})
     return count + compare('mark', place, {'bytes': scripts.MARK}, {'bytes': s['mark']})
 
 
 def reference(s):
-    """The tables of docs/REFERENCE.md: the refusals, and the codes of a record."""
+    """The tables of docs/REFERENCE.md: the refusals, the versions of a file, and the codes of a record; and the limits of the texts."""
     place = 'docs/REFERENCE.md'
     text = Text(place, (ROOT / place).read_text())
     rows = {name: int(number) for number, name in text.all(r'\n\| (\d+) \| ([A-Z_]+) \|', REFUSALS)}
     count = compare('refusal', place, rows | {'DONE': 0}, s['answer'])
+    said = lambda number: int(number.replace(',', ''))
+    rows = {int(version): (said(fewest), said(most)) for version, fewest, most in text.all(r'\n\| (\d+) \| ([\d,]+) to ([\d,]+) \|', VERSIONS)}
+    count += compare('version', place, rows, s['version'])
+    texts = text.one(r'(?s)a count of more than ([\d,]+) is refused with 14 here.*slice of at least ([\d,]+) and ([\d,]+) bytes')
+    count += compare('text', place, dict(zip(('TEXT_RECORDS', 'MOST_TEXT', 'MOST_FORMS'), map(said, texts or ()))), s['text'])
     for enum, begin, names in (('kind', r'\| kind: ', r'\b(Imm|Reg|Seg|Mem) (\d)'), ('size', 'displacement size: ', r'\b(Unspecified|Byte|Word) (\d)'),
             ('jump', r'\| jump kind: ', r'\b(none|Far|Near|Short) (\d)')):
         given = text.part(begin, r' \|').numbers(names, len(s[enum]), lambda n: 'NO_KIND' if n == 'none' else n.upper())
@@ -296,7 +308,12 @@ def lists():
 
 
 def main():
-    s = source()
+    try:
+        s = source()
+    except (KeyError, TypeError, ValueError):
+        # What a pattern does not meet is missed further on.
+        if not failures:
+            raise
     if not failures:
         counts = header(s), crate(s), python(s), reference(s)
         lists()

@@ -15,7 +15,10 @@ SEGMENTS = 'ES CS SS DS'.split()
 PREFIXES = [0x26, 0x2E, 0x36, 0x3E]
 BASES = 'BX+SI BX+DI BP+SI BP+DI SI DI BP BX'.split()
 
-MARK, VERSION, MOST_RECORDS = b'FSQ', 1, 1000
+MARK = b'FSQ'
+# The versions of a file, each with the fewest and the most of its records; fsqlist and fsqform print no show of more than TEXT_RECORDS.
+VERSIONS = {1: (0, 1000), 2: (1001, 8000)}
+TEXT_RECORDS = 1000
 # Behind the mark: version, origin, count.
 HEADER = struct.Struct('<HHH')
 # Operation, operand count, span; then each of two operands.
@@ -23,3 +26,8 @@ RECORD = struct.Struct('<BBII')
 # Kind, size, prefix, displacement size, jump kind, mode, r/m, immediate, displacement, span.
 OPERAND = struct.Struct('<BBBBBBBiiII')
 FIRST, SECOND = RECORD.size, RECORD.size + OPERAND.size
+
+
+def version_of(count):
+    """The version that a file of so many records has; the last one above all of them, so that it is its count that is refused."""
+    return next((version for version, (_, most) in VERSIONS.items() if count <= most), max(VERSIONS))

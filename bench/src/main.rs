@@ -69,10 +69,13 @@ fn measure(show: &Show, rounds: usize, warming: usize, timed: bool) -> Result<()
     let lists = clock(&of(&["list-rattle"]), rounds / 10 + 1, warming / 10)?;
     let forms = clock(&of(&["form-rattle"]), rounds, warming)?;
     let loads = clock(&of(&["load-rattle", "load-rust"]), rounds, warming)?;
-    let grown = [1, 2, 4, 8].map(|times| show.times(times));
-    let turns: Vec<(&Show, &Side)> =
-        grown.iter().flat_map(|longer| of(&["encode-rattle", "encode-rust"]).into_iter().map(move |(_, side)| (longer, side))).collect();
-    let growth = clock(&turns, rounds / 10 + 1, warming / 10)?;
+    let grown = [1, 2, 4, 8].into_iter().map(|times| show.times(times)).collect::<Result<Vec<Show>, String>>()?;
+    let grow = |names: &[&str]| {
+        let turns: Vec<(&Show, &Side)> = grown.iter().flat_map(|longer| of(names).into_iter().map(move |(_, side)| (longer, side))).collect();
+        clock(&turns, rounds / 10 + 1, warming / 10)
+    };
+    let encoded = grow(&["encode-rattle", "encode-rust"])?;
+    let loaded = grow(&["load-rattle", "load-rust"])?;
     if !timed {
         println!("short: every side ran {rounds} rounds with equal answers; no claim about time");
         return Ok(());
@@ -88,10 +91,12 @@ fn measure(show: &Show, rounds: usize, warming: usize, timed: bool) -> Result<()
     println!("list: rattle {}/record", lists[0]);
     println!("form: rattle {}/record", forms[0]);
     both("load", "/record", &loads[0], "rust", &loads[1]);
-    for (longer, figures) in grown.iter().zip(growth.chunks(2)) {
-        let n = longer.records.len();
-        let said = |figure: &Figure| format!("{:.0} us, {figure}/record", figure.median * n as f64 / 1000.0);
-        println!("growth: {n} encodes: rattle {}; rust {}", said(&figures[0]), said(&figures[1]));
+    for (what, growth) in [("encodes", encoded), ("records loaded", loaded)] {
+        for (longer, figures) in grown.iter().zip(growth.chunks(2)) {
+            let n = longer.records.len();
+            let said = |figure: &Figure| format!("{:.0} us, {figure}/record", figure.median * n as f64 / 1000.0);
+            println!("growth: {n} {what}: rattle {}; rust {}", said(&figures[0]), said(&figures[1]));
+        }
     }
     Ok(())
 }

@@ -50,11 +50,8 @@ impl Show {
 
     /// Every near branch goes to the start of a record: the lengths that make.py counts with are the right ones.
     fn branches_land(&self) -> Result<(), String> {
-        for (n, record) in self.records.iter().enumerate() {
-            let first = &record[FSQ_FIRST_AT..];
-            let (branch, kind, jump) = (groups::is_branch(record[FSQ_OPERATION_AT]), first[FSQ_KIND_AT], first[FSQ_JUMP_AT]);
-            let target = i32::from_le_bytes(first[FSQ_IMMEDIATE_AT..][..4].try_into().unwrap());
-            if branch && kind == IMM && jump != FAR && !self.offsets.iter().any(|start| *start as i32 == target) {
+        for (n, target) in self.records.iter().enumerate().filter_map(|(n, record)| Some((n, near_target(record)?))) {
+            if !self.offsets.iter().any(|start| *start as i32 == target) {
                 return Err(format!("record {n}: its target {target} is not the start of a record"));
             }
         }
@@ -69,15 +66,40 @@ impl Show {
         }
     }
 
-    /// The records so many times over, each at its offset. The file stays.
-    pub fn times(&self, n: usize) -> Show {
-        let records = self.records.repeat(n);
-        Show {
-            file: self.file.clone(),
-            instructions: records.iter().filter_map(rust::instruction).collect(),
-            records,
-            offsets: self.offsets.repeat(n),
-            strings: self.strings.repeat(n),
+    /// The records so many times over, one time behind the other in one file, whose version is its count's. Near branches move with their records, so that every
+    /// record keeps its bytes.
+    pub fn times(&self, n: usize) -> Result<Show, String> {
+        let length: usize = self.strings.iter().map(|string| string.len).sum();
+        let mut records = Vec::new();
+        let mut offsets = Vec::new();
+        for behind in (0..n).map(|time| time * length) {
+            records.extend(self.records.iter().map(|record| moved(record, behind as i32)));
+            offsets.extend(self.offsets.iter().map(|offset| offset.wrapping_add(behind as u16)));
         }
+        let count = records.len() as u16;
+        let version = if count <= FSQ_SHORT_RECORDS { FSQ_FILE_VERSION } else { FSQ_LONG_VERSION };
+        let mut file = b"FSQ".to_vec();
+        [version, self.origin(), count].iter().for_each(|field| file.extend(field.to_le_bytes()));
+        records.iter().for_each(|record| file.extend(record));
+        let instructions = records.iter().filter_map(rust::instruction).collect();
+        let show = Show { file, instructions, records, offsets, strings: self.strings.repeat(n) };
+        show.branches_land()?;
+        Ok(show)
     }
+}
+
+/// Where a near branch goes.
+fn near_target(record: &Packed) -> Option<i32> {
+    let first = &record[FSQ_FIRST_AT..];
+    let is_near = groups::is_branch(record[FSQ_OPERATION_AT]) && first[FSQ_KIND_AT] == IMM && first[FSQ_JUMP_AT] != FAR;
+    is_near.then(|| i32::from_le_bytes(first[FSQ_IMMEDIATE_AT..][..4].try_into().unwrap()))
+}
+
+/// A record so many bytes further behind, with its near target.
+fn moved(record: &Packed, behind: i32) -> Packed {
+    let mut moved = *record;
+    if let Some(target) = near_target(record) {
+        moved[FSQ_FIRST_AT + FSQ_IMMEDIATE_AT..][..4].copy_from_slice(&(target + behind).to_le_bytes());
+    }
+    moved
 }

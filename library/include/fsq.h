@@ -19,9 +19,9 @@
 #include <stddef.h>
 #include <stdint.h>
 
-/* The version of this header. Another major one may take a name away, another minor one adds some. */
+/* The version of this header. Another major one may take a name away, another minor one adds some or raises a limit. */
 #define FSQ_VERSION_MAJOR 2
-#define FSQ_VERSION_MINOR 1
+#define FSQ_VERSION_MINOR 2
 
 #ifdef __cplusplus
 extern "C" {
@@ -42,8 +42,8 @@ enum fsq_answer {
     FSQ_NOT_AN_INSTRUCTION = 10,          /* No instruction begins with these bytes, whatever follows them. */
     FSQ_NOT_COMPLETE = 11,                /* The bytes are the front of an instruction, and more are needed. */
     FSQ_NO_MARK = 12,                     /* The file does not begin with "FSQ". */
-    FSQ_WRONG_VERSION = 13,               /* The file's version is not 1. */
-    FSQ_WRONG_LENGTH = 14,                /* The file is not as long as its count says, the count is above 1,000, or a record has not 56 bytes. */
+    FSQ_WRONG_VERSION = 13,               /* The file's version is neither 1 nor 2. */
+    FSQ_WRONG_LENGTH = 14,                /* The file is not as long as its count says, its version does not take this count, or a record has not 56 bytes. */
     FSQ_UNKNOWN_CODE = 15                 /* A record has an operation, kind, size or jump kind that does not exist. */
 };
 
@@ -58,15 +58,17 @@ enum fsq_length {
     FSQ_FORM_LENGTH = 64,     /* the line of a form: a slice of so many bytes takes every one */
     FSQ_HEADER_LENGTH = 9,    /* what stands before the records of a show file */
     FSQ_OPERAND_LENGTH = 23,  /* an operand of a record */
-    FSQ_IMAGE_LENGTH = 7000,  /* the longest image: a slice of so many bytes takes every one */
-    FSQ_FILE_LENGTH = 56009   /* the longest show file */
+    FSQ_IMAGE_LENGTH = 56000, /* the longest image: a slice of so many bytes takes every one */
+    FSQ_FILE_LENGTH = 448009  /* the longest show file */
 };
 
-/* Limits, and the version of a show file. */
+/* Limits, and the versions of a show file: its count decides which one it has. */
 enum fsq_limit {
-    FSQ_MOST_RECORDS = 1000,  /* of a show file */
-    FSQ_MOST_ENTRIES = 12,    /* of a list */
-    FSQ_FILE_VERSION = 1      /* the one that is loaded and written */
+    FSQ_MOST_RECORDS = 8000,   /* of a show file */
+    FSQ_SHORT_RECORDS = 1000,  /* the most of a file of version 1, and of one that fsqlist and fsqform print */
+    FSQ_MOST_ENTRIES = 12,     /* of a list */
+    FSQ_FILE_VERSION = 1,      /* up to FSQ_SHORT_RECORDS records */
+    FSQ_LONG_VERSION = 2       /* above FSQ_SHORT_RECORDS */
 };
 
 /* The record in a report that names none. */
@@ -90,9 +92,9 @@ enum fsq_report {
 /* Where the fields of a show file's header stand. Record k, from 0, stands at 9 + 56 * k. */
 enum fsq_header {
     FSQ_HEADER_MARK_AT = 0,      /* 3 bytes: 46 53 51 (hexadecimal), "FSQ" */
-    FSQ_HEADER_VERSION_AT = 3,   /* u16: FSQ_FILE_VERSION */
+    FSQ_HEADER_VERSION_AT = 3,   /* u16: FSQ_FILE_VERSION, or FSQ_LONG_VERSION above FSQ_SHORT_RECORDS */
     FSQ_HEADER_ORIGIN_AT = 5,    /* u16: the offset of the first record */
-    FSQ_HEADER_COUNT_AT = 7      /* u16: records, 0 to 1,000 */
+    FSQ_HEADER_COUNT_AT = 7      /* u16: records, 0 to 1,000 of version 1 and 1,001 to 8,000 of version 2 */
 };
 
 /* Where the fields of a record stand. Its two operands stand at 10 and 33; an operand that the instruction does not have is all zeros. */
@@ -238,10 +240,10 @@ uint8_t fsq_form(const uint8_t *record, size_t record_len, uint16_t offset, uint
 uint8_t fsq_read(const uint8_t *bytes, size_t bytes_len, uint16_t offset, uint8_t *out, size_t out_len);
 
 /* Loads a show file: the bytes of its records, one after the other from its origin on.
- * The file: "FSQ", version u16 = 1, origin u16, count u16 (0 to 1,000), then so many records.
+ * The file: "FSQ", version u16, origin u16, count u16, then so many records. A file of version 1 has 0 to 1,000, one of version 2 1,001 to 8,000.
  *   file, file_len       the whole file
  *   image, image_len     gets the records' bytes at its front; its later bytes stay
- *   report, report_len   gets the report where it has 28 bytes, else stays as it is; its length is that of the image, 0 to 7,000
+ *   report, report_len   gets the report where it has 28 bytes, else stays as it is; its length is that of the image, 0 to 56,000
  *   answers              FSQ_DONE; FSQ_NO_MARK, FSQ_WRONG_VERSION or FSQ_WRONG_LENGTH of the file; FSQ_UNKNOWN_CODE of the first record that has
  *                        one; 1 to 8 of the first record that is refused; FSQ_SLICE_TOO_SHORT of the first record that the image does not hold
  */
@@ -566,7 +568,7 @@ static inline int fsq_read_at(const uint8_t *bytes, size_t bytes_len, uint16_t o
  *   file, file_len     the whole file
  *   image, image_len   gets the records' bytes at its front; its later bytes stay. FSQ_IMAGE_LENGTH bytes are enough for every file
  *   report             gets the report, or is null
- *   answers            the length of the image, 0 to 7,000, or a refusal's number made negative
+ *   answers            the length of the image, 0 to 56,000, or a refusal's number made negative
  */
 static inline int fsq_load_show(const uint8_t *file, size_t file_len, uint8_t *image, size_t image_len, fsq_report_t *report) {
     fsq_report_t own;
@@ -737,8 +739,8 @@ static inline const char *fsq_refusal_sentence(int answer) {
         "No instruction begins with these bytes.",
         "The bytes are the front of an instruction, and more are needed.",
         "The file does not begin with \"FSQ\".",
-        "The file's version is not 1.",
-        "The file is not as long as its count says, the count is above 1,000, or a record has not 56 bytes.",
+        "The file's version is neither 1 nor 2.",
+        "The file is not as long as its count says, its version does not take this count, or a record has not 56 bytes.",
         "A record has an operation, kind, size or jump kind that does not exist.",
         "This header does not know the refusal."
     };
@@ -763,11 +765,11 @@ static inline const char *fsq_operation_name(enum fsq_operation operation) {
 
 /* Show files. */
 
-/* Writes the header of a show file.
+/* Writes the header of a show file: of version 1 up to 1,000 records, of version 2 above.
  *   file, file_len   gets the header at its front, 9 bytes; its later bytes stay
  *   origin           the offset of the first record
  *   count            the number of records
- *   answers          the length of the header, 9; -14 where count is above 1,000, then -9 where file_len is below 9; then nothing is written
+ *   answers          the length of the header, 9; -14 where count is above 8,000, then -9 where file_len is below 9; then nothing is written
  */
 static inline int fsq_write_header(uint8_t *file, size_t file_len, uint16_t origin, uint16_t count) {
     if (count > FSQ_MOST_RECORDS)
@@ -777,7 +779,7 @@ static inline int fsq_write_header(uint8_t *file, size_t file_len, uint16_t orig
     file[FSQ_HEADER_MARK_AT] = 0x46;
     file[FSQ_HEADER_MARK_AT + 1] = 0x53;
     file[FSQ_HEADER_MARK_AT + 2] = 0x51;
-    fsq_put_u16(file + FSQ_HEADER_VERSION_AT, FSQ_FILE_VERSION);
+    fsq_put_u16(file + FSQ_HEADER_VERSION_AT, (uint16_t) (count <= FSQ_SHORT_RECORDS ? FSQ_FILE_VERSION : FSQ_LONG_VERSION));
     fsq_put_u16(file + FSQ_HEADER_ORIGIN_AT, origin);
     fsq_put_u16(file + FSQ_HEADER_COUNT_AT, count);
     return FSQ_HEADER_LENGTH;
@@ -787,7 +789,7 @@ static inline int fsq_write_header(uint8_t *file, size_t file_len, uint16_t orig
  *   file, file_len   gets the record at 9 + 56 * number; its other bytes stay
  *   number           the record, from 0
  *   record           the record, copied
- *   answers          the length of the file to the end of this record; -14 where number is above 999 or record null, then -9 where the file is
+ *   answers          the length of the file to the end of this record; -14 where number is above 7,999 or record null, then -9 where the file is
  *                    shorter than that; then nothing is written
  */
 static inline int fsq_write_record(uint8_t *file, size_t file_len, uint16_t number, const fsq_record_t *record) {

@@ -84,6 +84,22 @@ uint8_t fsq_read(const uint8_t *bytes, size_t n, uint16_t offset, uint8_t *out, 
 
 uint8_t fsq_load(const uint8_t *file, size_t n, uint8_t *image, size_t m, uint8_t *report, size_t k) {
     uint8_t answer = right_load(file, n, image, m, report, k);
+    int is_long = n > FSQ_HEADER_LENGTH + FSQ_SHORT_RECORDS * FSQ_RECORD_LENGTH, reported = k >= FSQ_REPORT_LENGTH;
+    // the loader before version 2
+    if (fault("13-for-version-2") && n >= FSQ_HEADER_LENGTH && file[FSQ_HEADER_VERSION_AT] == FSQ_LONG_VERSION)
+        return FSQ_WRONG_VERSION;
+    if (fault("version-2-of-1000") && n == FSQ_HEADER_LENGTH + FSQ_SHORT_RECORDS * FSQ_RECORD_LENGTH && file[FSQ_HEADER_VERSION_AT] == FSQ_LONG_VERSION)
+        return FSQ_DONE;
+    if (fault("version-1-of-1001") && answer == FSQ_WRONG_LENGTH && is_long && file[FSQ_HEADER_VERSION_AT] == FSQ_FILE_VERSION)
+        return FSQ_DONE;
+    if (fault("8001-records") && answer == FSQ_WRONG_LENGTH && n == FSQ_FILE_LENGTH + FSQ_RECORD_LENGTH)
+        return FSQ_DONE;
+    if (fault("byte-beyond-1000-records") && answer == FSQ_DONE && is_long && reported)
+        image[fsq_get_u32(report + FSQ_REPORT_LENGTH_AT) - 1] ^= 1;
+    if (fault("record-in-a-byte") && answer != FSQ_DONE && is_long && reported && fsq_get_u32(report + FSQ_REPORT_RECORD_AT) != FSQ_NO_RECORD)
+        memset(report + FSQ_REPORT_RECORD_AT + 1, 0, 3);
+    if (fault("image-before-a-refusal") && answer != FSQ_DONE && is_long && m != 0)
+        image[0] ^= 1;
     if (fault("index-one-more") && answer != FSQ_DONE && k >= FSQ_REPORT_LENGTH && report[FSQ_REPORT_RECORD_AT] < 255)
         report[FSQ_REPORT_RECORD_AT]++;
     if (fault("wrong-last-byte") && answer == FSQ_DONE && k >= FSQ_REPORT_LENGTH && fsq_get_u32(report + FSQ_REPORT_LENGTH_AT) != 0)

@@ -136,7 +136,8 @@ static void numbers(void) {
     CHECK(is(at, 5, "78 56 34 12 A5") && fsq_get_i32(at) == 0x12345678);
     fsq_put_u16(at, 0xABCD);
     CHECK(is(at, 3, "CD AB 34"));
-    CHECK(FSQ_VERSION_MAJOR == 2 && FSQ_VERSION_MINOR >= 1);
+    CHECK(FSQ_VERSION_MAJOR == 2 && FSQ_VERSION_MINOR >= 2);
+    CHECK(FSQ_MOST_RECORDS == 8000 && FSQ_SHORT_RECORDS == 1000 && FSQ_IMAGE_LENGTH == 56000 && FSQ_FILE_LENGTH == 448009);
     CHECK(sizeof(fsq_operand_t) == 23 && sizeof(fsq_record_t) == 56 && sizeof(fsq_report_t) == 28);
     CHECK(sizeof(fsq_reading_t) == 24 && sizeof(fsq_list_t) == 97 && sizeof(fsq_line_t) == 64);
 }
@@ -473,20 +474,21 @@ static void readings(void) {
 static void shows(void) {
     fsq_record_t mov = fsq_two(FSQ_MOV, fsq_reg(FSQ_AX), fsq_imm(4660)), aam = fsq_none(FSQ_AAM), loop = fsq_one(FSQ_LOOP, fsq_imm(256));
     fsq_record_t far_loop = fsq_record_with_span(fsq_one(FSQ_LOOP, fsq_with_span(fsq_imm(512), 25, 28)), 20, 28), unknown = aam;
-    static uint8_t whole[FSQ_FILE_LENGTH], whole_image[FSQ_IMAGE_LENGTH];
     uint8_t file[9 + 3 * 56 + 1], image[9];
     fsq_report_t report;
-    uint16_t i;
     memset(file, 0xA5, sizeof file);
     memset(image, 0xA5, sizeof image);
 
     CHECK(fsq_write_header(file, 8, 256, 3) == -FSQ_SLICE_TOO_SHORT && fsq_write_header(NULL, 0, 256, 3) == -FSQ_SLICE_TOO_SHORT);
-    CHECK(fsq_write_header(NULL, 9, 256, 3) == -FSQ_SLICE_TOO_SHORT && fsq_write_header(file, 9, 256, 1001) == -FSQ_WRONG_LENGTH);
+    CHECK(fsq_write_header(NULL, 9, 256, 3) == -FSQ_SLICE_TOO_SHORT && fsq_write_header(file, 9, 256, 8001) == -FSQ_WRONG_LENGTH);
+    CHECK(fsq_write_header(NULL, 0, 256, 8001) == -FSQ_WRONG_LENGTH && fsq_write_header(file, 9, 256, 65535) == -FSQ_WRONG_LENGTH);
     CHECK(file[0] == 0xA5);
     CHECK(fsq_write_header(file, sizeof file, 256, 3) == 9 && is(file, 10, "46 53 51 01 00 00 01 03 00 A5"));
     CHECK(fsq_write_record(file, 64, 0, &mov) == -FSQ_SLICE_TOO_SHORT && fsq_write_record(NULL, 65, 0, &mov) == -FSQ_SLICE_TOO_SHORT);
     CHECK(fsq_write_record(file, sizeof file, 3, &mov) == -FSQ_SLICE_TOO_SHORT);
-    CHECK(fsq_write_record(file, sizeof file, 1000, &mov) == -FSQ_WRONG_LENGTH && fsq_write_record(file, 65, 0, NULL) == -FSQ_WRONG_LENGTH);
+    CHECK(fsq_write_record(file, sizeof file, 1000, &mov) == -FSQ_SLICE_TOO_SHORT && fsq_write_record(file, sizeof file, 7999, &mov) == -FSQ_SLICE_TOO_SHORT);
+    CHECK(fsq_write_record(file, sizeof file, 8000, &mov) == -FSQ_WRONG_LENGTH && fsq_write_record(file, sizeof file, 65535, &mov) == -FSQ_WRONG_LENGTH);
+    CHECK(fsq_write_record(file, 65, 0, NULL) == -FSQ_WRONG_LENGTH);
     CHECK(file[9] == 0xA5);
     CHECK(fsq_write_record(file, sizeof file, 0, &mov) == 65 && fsq_write_record(file, sizeof file, 1, &aam) == 121);
     CHECK(fsq_write_record(file, sizeof file, 2, &loop) == 177 && file[177] == 0xA5 && memcmp(file + 65, aam.bytes, 56) == 0);
@@ -497,7 +499,7 @@ static void shows(void) {
     CHECK(fsq_load_show(file, 3, image, sizeof image, NULL) == -FSQ_WRONG_LENGTH);
     CHECK(fsq_load_show(file, 177, image, 6, &report) == -FSQ_SLICE_TOO_SHORT && fsq_report_record(&report) == 2);
     CHECK(fsq_load_show(file, 177, NULL, 0, &report) == -FSQ_SLICE_TOO_SHORT && fsq_report_record(&report) == 0);
-    CHECK(fsq_load_show(file, 177, NULL, 7000, NULL) == -FSQ_SLICE_TOO_SHORT && fsq_load_show(file, 177, image, 0, NULL) == -FSQ_SLICE_TOO_SHORT);
+    CHECK(fsq_load_show(file, 177, NULL, 56000, NULL) == -FSQ_SLICE_TOO_SHORT && fsq_load_show(file, 177, image, 0, NULL) == -FSQ_SLICE_TOO_SHORT);
     CHECK(fsq_load_show(NULL, 0, image, sizeof image, &report) == -FSQ_NO_MARK && fsq_report_record(&report) == FSQ_NO_RECORD);
     CHECK(fsq_load_show(NULL, 177, NULL, 0, NULL) == -FSQ_NO_MARK && fsq_load_show(file, 0, image, 9, NULL) == -FSQ_NO_MARK);
 
@@ -509,21 +511,76 @@ static void shows(void) {
     CHECK(fsq_write_record(file, 177, 1, &unknown) == 177 - 56);
     CHECK(fsq_load_show(file, 177, image, sizeof image, &report) == -FSQ_UNKNOWN_CODE && fsq_report_record(&report) == 1);
     fsq_put_u16(file + FSQ_HEADER_VERSION_AT, 2);
+    CHECK(fsq_load_show(file, 177, image, sizeof image, NULL) == -FSQ_WRONG_LENGTH);
+    fsq_put_u16(file + FSQ_HEADER_VERSION_AT, 3);
     CHECK(fsq_load_show(file, 177, image, sizeof image, NULL) == -FSQ_WRONG_VERSION);
     CHECK(fsq_write_header(file, 9, 0, 0) == 9 && fsq_load_show(file, 9, NULL, 0, NULL) == 0);
     aam = fsq_none(FSQ_RET);
     CHECK(fsq_write_header(file, 9, 0, 1) == 9 && fsq_write_record(file, 65, 0, &aam) == 65);
     CHECK(fsq_load_show(file, 65, NULL, 0, NULL) == -FSQ_SLICE_TOO_SHORT && fsq_load_show(file, 65, NULL, 1, NULL) == -FSQ_SLICE_TOO_SHORT);
     CHECK(fsq_load_show(file, 65, image, 1, NULL) == 1 && image[0] == 0xC3);
+}
 
-    /* The longest: a thousand records, MOV word ES:[BX+4660],22136, of seven bytes each. */
-    mov = fsq_two(FSQ_MOV, fsq_with_segment(fsq_mem(FSQ_WORD, FSQ_BASE_BX, 4660), FSQ_ES), fsq_imm(22136));
-    CHECK(fsq_write_header(whole, sizeof whole, 0, 1000) == 9);
-    for (i = 0; i < 1000; i++)
-        CHECK(fsq_write_record(whole, sizeof whole, i, &mov) == 9 + 56 * (i + 1));
-    CHECK(fsq_load_show(whole, sizeof whole, whole_image, sizeof whole_image, &report) == 7000 && fsq_report_length(&report) == 7000);
-    CHECK(is(whole_image + 6993, 7, "26 C7 87 34 12 78 56"));
-    CHECK(fsq_load_show(whole, sizeof whole, whole_image, 6999, &report) == -FSQ_SLICE_TOO_SHORT && fsq_report_record(&report) == 999);
+/* REFERENCE 8: version 1 has 0 to 1,000 records and version 2 1,001 to 8,000. The longest files of each, and what lies beside them. */
+static void long_shows(void) {
+    static const struct { uint16_t count; const char *bytes; } headers[] = {
+        {0, "46 53 51 01 00 34 12 00 00"}, {1000, "46 53 51 01 00 34 12 E8 03"}, {1001, "46 53 51 02 00 34 12 E9 03"}, {8000, "46 53 51 02 00 34 12 40 1F"}
+    };
+    static const struct { uint16_t version, count; int answer; } rows[] = {
+        {1, 0, 0}, {1, 1000, 7000}, {1, 1001, -14}, {1, 8000, -14}, {1, 8001, -14}, {2, 0, -14}, {2, 1, -14}, {2, 1000, -14}, {2, 1001, 7007}, {2, 3200, 22400},
+        {2, 8000, 56000}, {2, 8001, -14}, {0, 0, -13}, {0, 1000, -13}, {3, 0, -13}, {3, 1000, -13}, {3, 1001, -13}, {3, 8000, -13}, {3, 8001, -13}, {257, 1000, -13},
+        {258, 1001, -13}
+    };
+    static const uint16_t refused_at[] = {999, 1000, 3199, 7999};
+    /* A record and a byte more than the longest file, and a byte more than its image. */
+    static uint8_t file[FSQ_FILE_LENGTH + FSQ_RECORD_LENGTH + 1], image[FSQ_IMAGE_LENGTH + 1], expected[FSQ_IMAGE_LENGTH], untouched[FSQ_IMAGE_LENGTH + 1];
+    fsq_record_t mov = fsq_two(FSQ_MOV, fsq_with_segment(fsq_mem(FSQ_WORD, FSQ_BASE_BX, 4660), FSQ_ES), fsq_imm(22136));
+    fsq_record_t push = fsq_one(FSQ_PUSH, fsq_with_span(fsq_reg(FSQ_AL), 3, 7)), unknown = mov;
+    fsq_report_t report;
+    size_t i, length;
+    uint16_t number;
+    for (i = 0; i < sizeof headers / sizeof *headers; i++)
+        CHECK(fsq_write_header(file, sizeof file, 4660, headers[i].count) == 9 && is(file, 9, headers[i].bytes));
+
+    /* MOV word ES:[BX+4660],22136 has seven bytes. */
+    memset(untouched, 0xA5, sizeof untouched);
+    for (i = 0; i < sizeof expected; i += 7)
+        memcpy(expected + i, "\x26\xC7\x87\x34\x12\x78\x56", 7);
+    for (number = 0; number < 8000; number++)
+        CHECK(fsq_write_record(file, FSQ_FILE_LENGTH, number, &mov) == 9 + 56 * (number + 1));
+    CHECK(fsq_write_record(file, sizeof file, 8000, &mov) == -FSQ_WRONG_LENGTH && file[FSQ_FILE_LENGTH] == 0);
+    memcpy(file + FSQ_FILE_LENGTH, mov.bytes, sizeof mov.bytes);
+    for (i = 0; i < sizeof rows / sizeof *rows; i++) {
+        size_t written = rows[i].answer < 0 ? 0 : (size_t) rows[i].answer;
+        length = 9 + 56 * (size_t) rows[i].count;
+        CHECK(fsq_write_header(file, 9, 0, 0) == 9);
+        fsq_put_u16(file + FSQ_HEADER_VERSION_AT, rows[i].version);
+        fsq_put_u16(file + FSQ_HEADER_COUNT_AT, rows[i].count);
+        memset(image, 0xA5, sizeof image);
+        CHECK(fsq_load_show(file, length, image, sizeof image, &report) == rows[i].answer);
+        CHECK(fsq_report_length(&report) == written && fsq_report_record(&report) == FSQ_NO_RECORD);
+        CHECK(memcmp(image, expected, written) == 0 && memcmp(image + written, untouched, sizeof image - written) == 0);
+        /* A slice of the image's length takes it, and one of a byte less does not take the last record. */
+        CHECK(fsq_load_show(file, length, image, written, NULL) == rows[i].answer);
+        if (written != 0) {
+            CHECK(fsq_load_show(file, length, image, written - 1, &report) == -FSQ_SLICE_TOO_SHORT && fsq_report_record(&report) + 1 == rows[i].count);
+            CHECK(fsq_load_show(file, length - 1, image, sizeof image, NULL) == -FSQ_WRONG_LENGTH);
+            CHECK(fsq_load_show(file, length + 1, image, sizeof image, NULL) == -FSQ_WRONG_LENGTH);
+        }
+    }
+
+    /* The first refused record, and before it the first with an unknown code. */
+    CHECK(fsq_write_header(file, 9, 0, 8000) == 9);
+    unknown.bytes[FSQ_OPERATION_AT] = 99;
+    for (i = sizeof refused_at / sizeof *refused_at; i-- > 0;) {
+        CHECK(fsq_write_record(file, FSQ_FILE_LENGTH, refused_at[i], &push) == 9 + 56 * (refused_at[i] + 1));
+        CHECK(fsq_load_show(file, FSQ_FILE_LENGTH, image, sizeof image, &report) == -FSQ_INVALID_OPERANDS && fsq_report_record(&report) == refused_at[i]);
+        CHECK(fsq_report_span_start(&report) == 3 && fsq_report_span_end(&report) == 7);
+    }
+    for (i = sizeof refused_at / sizeof *refused_at; i-- > 0;) {
+        CHECK(fsq_write_record(file, FSQ_FILE_LENGTH, refused_at[i], &unknown) == 9 + 56 * (refused_at[i] + 1));
+        CHECK(fsq_load_show(file, FSQ_FILE_LENGTH, image, sizeof image, &report) == -FSQ_UNKNOWN_CODE && fsq_report_record(&report) == refused_at[i]);
+    }
 }
 
 /* The names of REFERENCE 11, by the enumerators of the header, and its comments as sentences. */
@@ -547,8 +604,8 @@ static void names(void) {
         "No instruction begins with these bytes.",
         "The bytes are the front of an instruction, and more are needed.",
         "The file does not begin with \"FSQ\".",
-        "The file's version is not 1.",
-        "The file is not as long as its count says, the count is above 1,000, or a record has not 56 bytes.",
+        "The file's version is neither 1 nor 2.",
+        "The file is not as long as its count says, its version does not take this count, or a record has not 56 bytes.",
         "A record has an operation, kind, size or jump kind that does not exist.",
         "This header does not know the refusal."
     };
@@ -557,7 +614,7 @@ static void names(void) {
     REFUSAL(INVALID_OPERAND_SIZE); REFUSAL(IMMEDIATE_OUT_OF_RANGE); REFUSAL(RELATIVE_JUMP_OUT_OF_RANGE); REFUSAL(NOT_SUPPORTED);
     REFUSAL(NOT_WELL_FORMED); REFUSAL(SLICE_TOO_SHORT); REFUSAL(NOT_AN_INSTRUCTION); REFUSAL(NOT_COMPLETE); REFUSAL(NO_MARK);
     REFUSAL(WRONG_VERSION); REFUSAL(WRONG_LENGTH); REFUSAL(UNKNOWN_CODE);
-    CHECK(strcmp(fsq_refusal_name(7), "DONE") == 0 && strcmp(fsq_refusal_name(7000), "DONE") == 0);
+    CHECK(strcmp(fsq_refusal_name(7), "DONE") == 0 && strcmp(fsq_refusal_name(56000), "DONE") == 0);
     CHECK(strcmp(fsq_refusal_name(-16), "UNKNOWN") == 0 && strcmp(fsq_refusal_name(-2147483647 - 1), "UNKNOWN") == 0);
     for (i = 0; i <= 16; i++)
         CHECK(strcmp(fsq_refusal_sentence(-i), sentences[i]) == 0);
@@ -577,6 +634,7 @@ int main(void) {
     forms();
     readings();
     shows();
+    long_shows();
     names();
     printf("header: %d checks, %d failed\n", checks, failures);
     return failures != 0;

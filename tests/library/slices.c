@@ -1,5 +1,5 @@
 /* slices FILE: the five functions and the header's inline functions over them on lent slices of every length that can matter, with the records of a
- * show file, whole and with a byte changed.
+ * show file, whole and with a byte changed. A file of more records than version 1 has is loaded only.
  *
  * Every slice ends at a page that cannot be touched, or begins behind one, and what is only read cannot be written: a byte outside ends the program.
  * After each call is compared what it may change: on a refusal nothing but the report, else nothing behind what is answered; and the answer
@@ -11,21 +11,27 @@
 #include <string.h>
 #include <sys/mman.h>
 
-enum { PAGE = 4096, IN = 16 * PAGE, OUT = 2 * PAGE, LENT = 0xA5 };
+/* OUT is for all that is written but an image and a file: what is lent is filled before each call, and compared behind it. */
+enum { PAGE = 4096, OUT = 2 * PAGE, IMAGE = 14 * PAGE, WHOLE = 112 * PAGE, LENT = 0xA5 };
 
-static uint8_t *in, *out, *report;
-static uint8_t untouched[OUT];
+/* Room between two pages that cannot be touched. */
+typedef struct room { uint8_t *at; size_t size; } room;
+
+static room in, out, report, image, whole;
+static uint8_t untouched[WHOLE];
 static unsigned long calls, refusals, failures;
 static uint32_t seed = 8086;
 
-/* Room between two pages that cannot be touched. */
-static uint8_t *fenced(size_t size) {
+static room fenced(size_t size) {
+    room made;
     uint8_t *at = mmap(NULL, size + 2 * PAGE, PROT_NONE, MAP_PRIVATE | MAP_ANONYMOUS, -1, 0);
     if (at == MAP_FAILED || mprotect(at + PAGE, size, PROT_READ | PROT_WRITE) != 0) {
         perror("slices");
         exit(1);
     }
-    return at + PAGE;
+    made.at = at + PAGE;
+    made.size = size;
+    return made;
 }
 
 static uint32_t below(uint32_t n) {
@@ -35,25 +41,25 @@ static uint32_t below(uint32_t n) {
 
 /* Bytes to read, at either end of their room, one of them changed where `change` says so. */
 static uint8_t *lend_in(const uint8_t *bytes, size_t length, int change) {
-    uint8_t *at = below(2) ? in + IN - length : in;
-    mprotect(in, IN, PROT_READ | PROT_WRITE);
+    uint8_t *at = below(2) ? in.at + in.size - length : in.at;
+    mprotect(in.at, in.size, PROT_READ | PROT_WRITE);
     memcpy(at, bytes, length);
     if (change && length != 0)
         at[below((uint32_t) length)] = (uint8_t) below(256);
-    mprotect(in, IN, PROT_READ);
+    mprotect(in.at, in.size, PROT_READ);
     return at;
 }
 
 /* A slice to write, at either end of its room, which is all the same byte. */
-static uint8_t *lend(uint8_t *room, size_t length) {
-    memset(room, LENT, OUT);
-    return below(2) ? room + OUT - length : room;
+static uint8_t *lend(room to, size_t length) {
+    memset(to.at, LENT, to.size);
+    return below(2) ? to.at + to.size - length : to.at;
 }
 
-/* Has the room changed outside of so many bytes at `from`? */
-static int stays_but(const uint8_t *room, const uint8_t *from, size_t length) {
-    size_t front = (size_t) (from - room);
-    return memcmp(room, untouched, front) == 0 && memcmp(from + length, untouched, OUT - front - length) == 0;
+/* Is the room as it was outside of so many bytes at `from`? */
+static int stays_but(room to, const uint8_t *from, size_t length) {
+    size_t front = (size_t) (from - to.at);
+    return memcmp(to.at, untouched, front) == 0 && memcmp(from + length, untouched, to.size - front - length) == 0;
 }
 
 static void failed(const char *function, const char *wrong, size_t length, size_t out_len, size_t report_len, int answer) {
@@ -116,7 +122,8 @@ static const size_t each[] = {1, FSQ_ENTRY_LENGTH, 0, 1, 1};
 /* One call. `bytes` is what it reads; the answer is compared with `first`, the one that a whole report came with, where that is not negative. */
 static int call(enum function function, const uint8_t *bytes, size_t length, uint16_t offset, size_t out_len, size_t report_len, int first) {
     static const char *names[] = {"fsq_encode", "fsq_list", "fsq_read", "fsq_load", "fsq_form"};
-    uint8_t *o = lend(out, out_len), *r = lend(report, report_len);
+    room to = function == LOAD ? image : out;
+    uint8_t *o = lend(to, out_len), *r = lend(report, report_len);
     const char *wrong = NULL;
     size_t written = 0;
     uint8_t answer = function == ENCODE ? fsq_encode(bytes, length, offset, o, out_len, r, report_len)
@@ -133,7 +140,7 @@ static int call(enum function function, const uint8_t *bytes, size_t length, uin
         wrong = "the answer depends on the report's length";
     else if (written > out_len)
         wrong = "more is answered than the slice holds";
-    else if (!stays_but(out, o, written))
+    else if (!stays_but(to, o, written))
         wrong = "a byte is changed that stays";
     else if (!stays_but(report, r, reported ? FSQ_REPORT_LENGTH : 0))
         wrong = "a byte beside the report is changed";
@@ -158,13 +165,14 @@ static void call_all(enum function function, const uint8_t *bytes, size_t length
  * read (with its length), what is written (with its length) and the report. */
 static void call_inline(enum function function, const uint8_t *bytes, size_t length, uint16_t offset, size_t out_len, unsigned nulls) {
     static const char *names[] = {"fsq_encode_at", "fsq_list_at", "fsq_read_at", "fsq_load_show", "fsq_form_at"};
-    static uint8_t right[OUT];
+    static uint8_t right[IMAGE];
+    room to = function == LOAD ? image : out;
     uint8_t right_report[FSQ_REPORT_LENGTH] = {0}, number;
-    size_t room = function == LIST ? sizeof(fsq_list_t) : function == READ ? FSQ_READING_LENGTH : function == FORM ? sizeof(fsq_line_t) : out_len, written;
+    size_t size = function == LIST ? sizeof(fsq_list_t) : function == READ ? FSQ_READING_LENGTH : function == FORM ? sizeof(fsq_line_t) : out_len, written;
     size_t given = nulls & 1u ? 0 : length;
     /* A reading that is not wanted is read all the same. */
-    size_t lent = nulls & 2u && function != READ ? 0 : function == LIST ? FSQ_LIST_LENGTH : room;
-    uint8_t *o = nulls & 2u ? NULL : lend(out, room);
+    size_t lent = nulls & 2u && function != READ ? 0 : function == LIST ? FSQ_LIST_LENGTH : size;
+    uint8_t *o = nulls & 2u ? NULL : lend(to, size);
     fsq_report_t *r = nulls & 4u ? NULL : (fsq_report_t *) lend(report, sizeof *r);
     const uint8_t *from = nulls & 1u ? NULL : bytes;
     const char *wrong = NULL;
@@ -203,7 +211,7 @@ static void call_inline(enum function function, const uint8_t *bytes, size_t len
         wrong = "another answer than the library's";
     else if (o != NULL && memcmp(o, right, written) != 0)
         wrong = "other bytes than the library's";
-    else if (o != NULL && !stays_but(out, o, written))
+    else if (o != NULL && !stays_but(to, o, written))
         wrong = "a byte is changed that stays";
     else if (function != READ && r != NULL && memcmp(r, right_report, sizeof *r) != 0)
         wrong = "another report than the library's";
@@ -220,47 +228,48 @@ static void call_inline_all(enum function function, const uint8_t *bytes, size_t
         call_inline(function, bytes, nulls & 1u && nulls & 2u ? 0 : length, offset, nulls & 2u && nulls & 4u ? 0 : out_len, nulls);
 }
 
-/* A header and a record into a file of each length that can matter, and into none. */
-static void write_inline(const fsq_record_t *record) {
-    static const size_t ends[] = {FSQ_HEADER_LENGTH, FSQ_HEADER_LENGTH + FSQ_RECORD_LENGTH, FSQ_HEADER_LENGTH + 3 * FSQ_RECORD_LENGTH};
-    for (size_t i = 0; i < sizeof ends / sizeof *ends; i++)
-        for (size_t more = 0; more < 4; more++) {
-            size_t length = more == 3 ? 0 : ends[i] + more - 1, at = i == 0 ? 0 : ends[i] - FSQ_RECORD_LENGTH, n = i == 0 ? ends[0] : FSQ_RECORD_LENGTH;
-            uint8_t *file = more == 3 ? NULL : lend(out, length);
-            int answer = i == 0 ? fsq_write_header(file, length, 4660, 3) : fsq_write_record(file, length, (uint16_t) (i == 1 ? 0 : 2), record);
-            int fits = length >= ends[i];
-            const char *wrong = NULL;
-            calls++;
-            refusals += answer < 0;
-            if (answer != (fits ? (int) ends[i] : -FSQ_SLICE_TOO_SHORT))
-                wrong = "another answer";
-            else if (file != NULL && !stays_but(out, fits ? file + at : file, fits ? n : 0))
-                wrong = "a byte is changed that stays";
-            else if (fits && i != 0 && memcmp(file + at, record, sizeof *record) != 0)
-                wrong = "another record";
-            if (wrong != NULL)
-                failed(i == 0 ? "fsq_write_header" : "fsq_write_record", wrong, length, ends[i], 0, answer);
-        }
+/* A record, or the header where the number is below 0, into a file of each length that can matter, and into none. */
+static void write_inline(room to, int number, const fsq_record_t *record) {
+    size_t n = number < 0 ? FSQ_HEADER_LENGTH : FSQ_RECORD_LENGTH, at = number < 0 ? 0 : FSQ_HEADER_LENGTH + (size_t) number * n, end = at + n;
+    for (size_t more = 0; more < 4; more++) {
+        size_t length = more == 3 ? 0 : end + more - 1;
+        uint8_t *file = more == 3 ? NULL : lend(to, length);
+        int answer = number < 0 ? fsq_write_header(file, length, 4660, 3) : fsq_write_record(file, length, (uint16_t) number, record);
+        int fits = length >= end;
+        const char *wrong = NULL;
+        calls++;
+        refusals += answer < 0;
+        if (answer != (fits ? (int) end : -FSQ_SLICE_TOO_SHORT))
+            wrong = "another answer";
+        else if (file != NULL && !stays_but(to, fits ? file + at : file, fits ? n : 0))
+            wrong = "a byte is changed that stays";
+        else if (fits && number >= 0 && memcmp(file + at, record, sizeof *record) != 0)
+            wrong = "another record";
+        if (wrong != NULL)
+            failed(number < 0 ? "fsq_write_header" : "fsq_write_record", wrong, length, end, 0, answer);
+    }
 }
 
 int main(int argc, char **argv) {
     static const size_t strings[] = {0, 1, 2, 3, 4, 5, 6, 7, 8, 100}, lists[] = {0, 8, 95, 96, 97, 200}, readings[] = {0, 1, 23, 24, 25};
     static const size_t lines[] = {0, 1, 63, 64, 65, 200};
     static const size_t record_lengths[] = {56, 56, 56, 56, 0, 1, 55, 57};
-    static uint8_t file[IN];
+    static uint8_t file[WHOLE];
     FILE *f = argc == 2 ? fopen(argv[1], "rb") : NULL;
-    size_t length = f == NULL ? 0 : fread(file, 1, sizeof file, f);
-    if (length < FSQ_HEADER_LENGTH + FSQ_RECORD_LENGTH || length + 16 > sizeof file) {
+    size_t length = f == NULL ? 0 : fread(file, 1, sizeof file, f), count = length / FSQ_RECORD_LENGTH;
+    if (count == 0 || length + 16 > sizeof file) {
         fprintf(stderr, "slices: a show file is needed\n");
         return 1;
     }
     fclose(f);
     memset(untouched, LENT, sizeof untouched);
-    in = fenced(IN);
+    in = fenced(WHOLE);
     out = fenced(OUT);
     report = fenced(OUT);
+    image = fenced(IMAGE);
+    whole = fenced(WHOLE);
 
-    for (size_t at = FSQ_HEADER_LENGTH; at + FSQ_RECORD_LENGTH < length; at += FSQ_RECORD_LENGTH)
+    for (size_t at = FSQ_HEADER_LENGTH; at + FSQ_RECORD_LENGTH < length && count <= FSQ_SHORT_RECORDS; at += FSQ_RECORD_LENGTH)
         for (int change = 0; change < 4; change++) {
             size_t record_len = record_lengths[below(8)], bytes_len = below(9);
             const uint8_t *record = lend_in(file + at, record_len, change);
@@ -279,10 +288,13 @@ int main(int argc, char **argv) {
             call_inline_all(ENCODE, record, FSQ_RECORD_LENGTH, strings[below(10)]);
             call_inline_all(LIST, record, FSQ_RECORD_LENGTH, 0);
             call_inline_all(FORM, record, FSQ_RECORD_LENGTH, 0);
-            write_inline((const fsq_record_t *) record);
+            for (int number = -1; number < 3; number++)
+                write_inline(out, number, (const fsq_record_t *) record);
         }
+    write_inline(whole, FSQ_SHORT_RECORDS, (const fsq_record_t *) lend_in(file + FSQ_HEADER_LENGTH, FSQ_RECORD_LENGTH, 0));
+    write_inline(whole, FSQ_MOST_RECORDS - 1, (const fsq_record_t *) lend_in(file + FSQ_HEADER_LENGTH, FSQ_RECORD_LENGTH, 0));
     for (int i = 0; i < 200; i++) {
-        size_t file_len = i % 4 == 0 ? length : below((uint32_t) length + 8), image_len = i % 3 == 0 ? OUT : below(OUT);
+        size_t file_len = i % 4 == 0 ? length : below((uint32_t) length + 8), image_len = i % 3 == 0 ? IMAGE : below((uint32_t) (FSQ_STRING_LENGTH * count));
         call_all(LOAD, lend_in(file, file_len, i % 2), file_len, image_len);
         call_inline_all(LOAD, lend_in(file, file_len, i % 2), file_len, image_len);
     }

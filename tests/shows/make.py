@@ -1,12 +1,13 @@
 #!/usr/bin/env python3
 """make.py DIR writes every show of this folder, and the cases of the gate, to DIR: NAME.fsq, the show file, NAME.out, what fsqlist has to print, and NAME.forms,
 what fsqform has to print.
-make.py --assemble compares the bytes of this folder's shows with those of GNU as and of NASM.
+make.py --long N NAME writes NAME.fsq, a show of N records, and NAME.image, the image that it has to give.
+make.py --assemble compares the bytes of this folder's shows, and of the long one, with those of GNU as and of NASM.
 
 A show stands as text in NAME.txt, a line for each record: the instruction, a bar, and its bytes or 'refused N'. A second bar and fsqform's line may follow.
 'far', 'near' or 'short' before an operand is its jump kind. The listing is made from the lengths of those bytes alone. Before the records may stand 'origin N',
-'version N', 'count N' (where it is not the records') and 'mark BYTES'; 'field NAME N' behind a record sets a byte of it, 'answer' gives its answer again, 'cut N'
-leaves N bytes of the file, 'more N' adds N zeros. Numbers are decimal."""
+'version N' (else it is 1), 'count N' (where it is not the records') and 'mark BYTES'; 'field NAME N' behind a record sets a byte of it, 'answer' gives its answer
+again, 'cut N' leaves N bytes of the file, 'more N' adds N zeros. 'refused N -' behind the records is the answer of the whole file. Numbers are decimal."""
 import pathlib
 import re
 import subprocess
@@ -19,7 +20,7 @@ sys.path.insert(0, str(ROOT / 'tools'))
 import forms
 from operations import (
     BASES, BYTE, BYTE_REGISTERS, FAR, FIRST, HEADER, IMM, KINDS, JUMPS, MARK, MEM, NEAR, NO_KIND, OPERAND, OPERATIONS, RECORD, REG, SECOND, SEG, SEGMENTS, SHORT,
-    SIZES, UNSPECIFIED, VERSION, WORD, WORD_REGISTERS)
+    SIZES, TEXT_RECORDS, UNSPECIFIED, WORD, WORD_REGISTERS, version_of)
 
 STORED = {name: ROOT / f'crates/test_vectors/data/{name}.txt' for name in ('bench_sheet', 'sample')}
 FIRST_BRANCH, LAST_BRANCH = OPERATIONS.index('CALL'), OPERATIONS.index('JCXZ')
@@ -64,7 +65,7 @@ def record(text):
 
 def show(text):
     """The file, its listing and its text with forms."""
-    mark, version, origin, count, records, answers, below, cut, more = MARK, VERSION, 0, None, [], [], {}, None, 0
+    mark, version, origin, count, records, answers, below, cut, more = MARK, 1, 0, None, [], [], {}, None, 0
 
     def answer(said):
         said, _, line = (part.strip() for part in said.partition('|'))
@@ -128,7 +129,36 @@ def text_refusal(answers):
     return f'{answer}\n' if answer.endswith('-') else f'refused {number} {k}\n'
 
 
-# ---- the cases of the gate. Bytes and refusals are those of document 01 (bench sheet, questions, code list) and of document 02, Nos. 1, 2 and 4, unless another
+# ---- a long show (document 02, No. 5). By its origin the offsets wrap at 65,536 before record 600.
+LONG_ORIGIN = 64000
+
+
+def word(n):
+    return f'{n % 256:02X} {n // 256 % 256:02X}'
+
+
+def long_show(count):
+    """The lines of so many records, each but LOOP with its own number in it: wait and shoot as a cue of No. 9 does, count, store, call and jump. The bytes are those of the
+    SDM's B9, E2, B0, E6, 83 /0 and 81 /0, C7 /0, E8 and 74; the distances document 01's, of CALL modulo 65,536 and of LOOP and JE not wrapped."""
+    yield f'version {version_of(count)}'
+    yield f'origin {LONG_ORIGIN}'
+    offset = LONG_ORIGIN
+    for k in range(count):
+        low, distance = f'{k % 256:02X}', k % 256 - 128
+        instruction, written = [
+            (f'MOV CX,{k}', f'B9 {word(k)}'),
+            (f'LOOP {offset}', 'E2 FE'),
+            (f'MOV AL,{k % 256}', f'B0 {low}'),
+            (f'OUT {k % 256},AL', f'E6 {low}'),
+            (f'ADD BX,{k}', f'83 C3 {low}' if k < 128 else f'81 C3 {word(k)}'),
+            (f'MOV word [BX+4660],{k}', f'C7 87 34 12 {word(k)}'),
+            (f'CALL {k}', f'E8 {word(k - (offset + 3))}'),
+            (f'JE {offset + 2 + distance}', f'74 {distance % 256:02X}')][k % 8]
+        yield f'{instruction} | {written}'
+        offset = (offset + len(bytes.fromhex(written))) % 65536
+
+
+# ---- the cases of the gate. Bytes and refusals are those of document 01 (bench sheet, questions, code list) and of document 02, Nos. 1, 2, 4 and 5, unless another
 # source is named.
 AAM = 'AAM | D4 0A'
 MOV = 'MOV AX,4660 | B8 34 12'
@@ -369,13 +399,27 @@ def cases():
     for length in range(3, 9):
         yield f'bytes-{length}', [f'cut {length}', 'refused 14 -']
     yield 'mark-before-length', ['mark 46 53 50', 'cut 4', 'refused 12 -']
-    yield 'mark-before-version', ['mark 46 53 50', 'version 2', 'refused 12 -']
-    yield 'nine-bytes-before-version', ['version 2', 'cut 8', 'refused 14 -']
+    yield 'mark-before-version', ['mark 46 53 50', 'version 3', 'refused 12 -']
+    yield 'mark-before-count', ['mark 46 53 50', 'version 2', *[AAM] * 1001, 'refused 12 -']
+    yield 'nine-bytes-before-version', ['version 3', 'cut 8', 'refused 14 -']
     yield 'the-first-unknown', [MOV, *REFUSED[15], *REFUSED[15]]
-    for version in (0, 2, 257, 65535):
+    for version in (0, 3, 257, 258, 65535):
         yield f'version-{version}', [f'version {version}', AAM, 'refused 13 -']
-    yield 'version-before-count', ['version 2', 'count 2', AAM, 'refused 13 -']
-    yield 'count-1001', [*[AAM] * 1001, 'refused 14 -']
+        # 1,171 records are more than the programs read
+        for count in (0, 1001, 1171):
+            yield f'version-{version}-count-{count}', [f'version {version}', *[AAM] * count, 'refused 13 -']
+    yield 'version-before-count', ['version 3', 'count 2', AAM, 'refused 13 -']
+    # No. 5: on the wrong side of its version, and above it what the loader takes and these programs do not
+    yield 'version-2', ['version 2', AAM, 'refused 14 -']
+    for count in (0, 999, 1000, 1001, 1170, 1171, 3200, 8000, 8001):
+        yield f'version-2-count-{count}', ['version 2', *[AAM] * count, 'refused 14 -']
+    for name, lines in (('unknown-code', [*[AAM] * 1000, *REFUSED[15]]), ('unknown-first', [*REFUSED[15], *[AAM] * 1000]), ('refused-record', [*[AAM] * 1000, *REFUSED[7]]),
+            ('count-too-high', ['count 1002', *[AAM] * 1001]), ('one-byte-more', ['more 1', *[AAM] * 1001]), ('header-alone', ['count 8000'])):
+        yield f'version-2-{name}', ['version 2', *lines, 'refused 14 -']
+    for count in (1000, 1001, 3200, 8000):
+        yield f'long-{count}', [*long_show(count), *['refused 14 -'] * (count > TEXT_RECORDS)]
+    for count in (1001, 8000, 8001):
+        yield f'count-{count}', [*[AAM] * count, 'refused 14 -']
     yield 'count-65535', ['count 65535', AAM, 'refused 14 -']
     yield 'count-too-low', ['count 1', AAM, AAM, 'refused 14 -']
     yield 'count-too-high', ['count 3', AAM, AAM, 'refused 14 -']
@@ -426,7 +470,7 @@ def stated(source):
         elif '|' in line and 'refused' not in line:
             instruction, answer = (part.strip() for part in line.split('|')[:2])
             yield offset, instruction, bytes.fromhex(answer)
-            offset += len(bytes.fromhex(answer))
+            offset = (offset + len(bytes.fromhex(answer))) % 65536
 
 
 def by_as(lines):
@@ -448,10 +492,11 @@ def by_as(lines):
 
 
 def by_nasm(lines):
-    """NASM's bytes; JMP without a kind is asked for as near, and the conditional jumps as short."""
-    text = f'cpu 8086\nbits 16\norg {lines[0][0]}\n'
-    for _, instruction, _ in lines:
-        text += re.sub(r'^(J\w+) (\d)', r'\1 short \2', re.sub(r'^JMP (\d)', r'JMP near \1', instruction)) + '\n'
+    """NASM's bytes; JMP without a kind is asked for as near, and the conditional jumps as short. A target is said by its way from the instruction, as an offset wraps and $ does not."""
+    text = 'cpu 8086\nbits 16\n'
+    for offset, instruction, _ in lines:
+        instruction = re.sub(r'^(CALL|J\w+|LOOP\w*)( short)? (-?\d+)$', lambda m: f'{m[1]}{m[2] or ""} $+({(int(m[3]) - offset + 32768) % 65536 - 32768})', instruction)
+        text += re.sub(r'^(J\w+) \$', r'\1 short $', re.sub(r'^JMP \$', 'JMP near $', instruction)) + '\n'
     with tempfile.TemporaryDirectory() as folder:
         path = pathlib.Path(folder)
         (path / 'a.asm').write_text(text)
@@ -476,12 +521,24 @@ def shows():
     yield 'bench', packed, listing, forms.text(packed, listing)
 
 
+def image(source):
+    return b''.join(written for _, _, written in stated(source))
+
+
 def main():
+    if sys.argv[1] == '--long':
+        count, name = int(sys.argv[2]), sys.argv[3]
+        source = '\n'.join(long_show(count))
+        pathlib.Path(f'{name}.fsq').write_bytes(show(source)[0])
+        pathlib.Path(f'{name}.image').write_bytes(image(source))
+        return
     if sys.argv[1] == '--assemble':
-        for name, source in folder_sources().items():
-            lines = list(stated(source))
-            written = b''.join(string for _, _, string in lines)
-            for assembler, made in (('as', by_as(lines)), ('nasm', by_nasm(lines))):
+        # A branch of the long show goes to no label, which as needs.
+        sources = [(name, source, [('as', by_as), ('nasm', by_nasm)]) for name, source in folder_sources().items()]
+        for name, source, assemblers in [*sources, ('long', '\n'.join(long_show(8000)), [('nasm', by_nasm)])]:
+            lines, written = list(stated(source)), image(source)
+            for assembler, assembled in assemblers:
+                made = assembled(lines)
                 print(name, f'as stated by {assembler}' if made == written else f'differs from {assembler}:\n{made.hex()}\n{written.hex()}')
         return
     folder = pathlib.Path(sys.argv[1])

@@ -83,10 +83,11 @@ def faults_of_streams(shows):
         end = run(program, show, arguments=('document.fsq',))
         if end.stdout or end.stderr.decode() != f'usage: {program.name} < SHOW.fsq\n':
             yield f'{program.name}: an argument is taken, or not said'
-    longest = max(shows, key=lambda show: len(show[3]))
-    for program, text in zip(PROGRAMS, longest[2:]):
-        if by_pipe(program, longest[1]) != text.encode():
-            yield f'{program.name}: {longest[0]} by a pipe is not what is expected'
+    # the longest text, and the longest file: more than a program reads
+    for name, packed, *texts in (max(shows, key=lambda show: len(show[3])), max(shows, key=lambda show: len(show[1]))):
+        for program, text in zip(PROGRAMS, texts):
+            if by_pipe(program, packed) != text.encode():
+                yield f'{program.name}: {name} by a pipe is not what is expected'
 
 
 def main():

@@ -2,13 +2,14 @@
 -- Assumes nothing.
 use mathlib.Core.Path.{_≡_, refl}
 use mathlib.Core.List.{List, [], _∷_, _++_}
-use Prim.Native.Nat.{ℕ}
+use Prim.Native.Nat.{ℕ, _*_, _/_, _%_}
 use lib.ListN.{replicate}
 use Rattle.mrc_compiler.specs.Operations.{operations}
 use Rattle.show_record.specs.Record.{operandKnown, codesKnown}
 use Rattle.show_file.specs.declared.LoadError.the-variants as E
+use Rattle.show_file.specs.declared.Opened.{Opened}
 use Rattle.show_file.specs.declared.Opened.the-variants as O
-use Rattle.show_file.specs.Show.{hasMark, u16At, headed, opened, isUnknown, firstUnknown}
+use Rattle.show_file.specs.Show.{mostRecords, hasMark, u16At, isCount, headed, opened, isUnknown, firstUnknown}
 
 -- version, origin 0x1234, count
 abbrev pub front : ℕ → ℕ → List ℕ
@@ -18,25 +19,34 @@ front v n = 0x46 ∷ 0x53 ∷ 0x51 ∷ v ∷ 0 ∷ 0x34 ∷ 0x12 ∷ n ∷ 0 ∷
 abbrev pub plain : ℕ → ℕ → List ℕ
 plain op s = op ∷ 0 ∷ s ∷ 0 ∷ 0 ∷ 0 ∷ s ∷ 0 ∷ 0 ∷ 0 ∷ replicate 46 0
 
+-- the loader's limit
+abbrev opens : List ℕ → Opened
+opens = opened mostRecords
+
+-- a file of this version with n records of zeros
+abbrev zeros : ℕ → ℕ → List ℕ
+zeros v n = (0x46 ∷ 0x53 ∷ 0x51 ∷ v ∷ 0 ∷ 0 ∷ 0 ∷ n % 256 ∷ n / 256 ∷ []) ++ replicate (56 * n) 0
+
 record Rows : Type 0 where
-  empty : opened [] ≡ O.Refused E.NoMark
-  mark-alone : opened (0x46 ∷ 0x53 ∷ 0x51 ∷ []) ≡ O.Refused E.WrongLength
-  no-records : opened (front 1 0) ≡ O.Show (record { version = 1; origin = 0x1234; count = 0 })
+  empty : opens [] ≡ O.Refused E.NoMark
+  mark-alone : opens (0x46 ∷ 0x53 ∷ 0x51 ∷ []) ≡ O.Refused E.WrongLength
+  no-records : opens (front 1 0) ≡ O.Show (record { version = 1; origin = 0x1234; count = 0 })
   -- the mark before the version, and before the nine bytes
-  mark-before-version : opened (0x46 ∷ 0x53 ∷ 0x50 ∷ 2 ∷ 0 ∷ 0 ∷ 0 ∷ 0 ∷ 0 ∷ []) ≡ O.Refused E.NoMark
-  mark-before-nine : opened (0x46 ∷ 0x53 ∷ 0x50 ∷ []) ≡ O.Refused E.NoMark
+  mark-before-version : opens (0x46 ∷ 0x53 ∷ 0x50 ∷ 3 ∷ 0 ∷ 0 ∷ 0 ∷ 0 ∷ 0 ∷ []) ≡ O.Refused E.NoMark
+  mark-before-nine : opens (0x46 ∷ 0x53 ∷ 0x50 ∷ []) ≡ O.Refused E.NoMark
   -- nine bytes before the version
-  nine-before-version : opened (0x46 ∷ 0x53 ∷ 0x51 ∷ 2 ∷ 0 ∷ 0 ∷ 0 ∷ 0 ∷ []) ≡ O.Refused E.WrongLength
+  nine-before-version : opens (0x46 ∷ 0x53 ∷ 0x51 ∷ 3 ∷ 0 ∷ 0 ∷ 0 ∷ 0 ∷ []) ≡ O.Refused E.WrongLength
   -- the version before the length
-  version-before-length : opened (front 2 1) ≡ O.Refused E.WrongVersion
-  one-short : opened (front 1 2 ++ plain 97 1) ≡ O.Refused E.WrongLength
-  one-over : opened (front 1 0 ++ (0 ∷ [])) ≡ O.Refused E.WrongLength
+  version-before-length : opens (front 3 1) ≡ O.Refused E.WrongVersion
+  version-0 : opens (front 0 0) ≡ O.Refused E.WrongVersion
+  one-short : opens (front 1 2 ++ plain 97 1) ≡ O.Refused E.WrongLength
+  one-over : opens (front 1 0 ++ (0 ∷ [])) ≡ O.Refused E.WrongLength
   -- of two unknown codes the first
   first-unknown : firstUnknown (front 1 3 ++ (plain 97 1 ++ (plain 99 2 ++ plain 100 3))) 3 ≡ 1
   none-unknown : firstUnknown (front 1 1 ++ plain 98 1) 1 ≡ 1
 
 rows : Rows
-unfolding opened headed hasMark u16At isUnknown codesKnown operandKnown operations
+unfolding opened headed isCount hasMark u16At isUnknown codesKnown operandKnown operations
 rows = record {
   empty = refl;
   mark-alone = refl;
@@ -45,8 +55,34 @@ rows = record {
   mark-before-nine = refl;
   nine-before-version = refl;
   version-before-length = refl;
+  version-0 = refl;
   one-short = refl;
   one-over = refl;
   first-unknown = refl;
   none-unknown = refl;
+}
+
+-- both sides of each version's counts (document 02, No. 5), in files of the right length
+record Counts : Type 0 where
+  one-1000 : opens (zeros 1 1000) ≡ O.Show (record { version = 1; origin = 0; count = 1000 })
+  one-1001 : opens (zeros 1 1001) ≡ O.Refused E.WrongLength
+  two-0 : opens (zeros 2 0) ≡ O.Refused E.WrongLength
+  two-1000 : opens (zeros 2 1000) ≡ O.Refused E.WrongLength
+  two-1001 : opens (zeros 2 1001) ≡ O.Show (record { version = 2; origin = 0; count = 1001 })
+  two-8000 : opens (zeros 2 8000) ≡ O.Show (record { version = 2; origin = 0; count = 8000 })
+  two-8001 : opens (zeros 2 8001) ≡ O.Refused E.WrongLength
+  -- a lower limit is the count's too
+  two-above-limit : opened 1000 (zeros 2 1001) ≡ O.Refused E.WrongLength
+
+counts : Counts
+unfolding opened headed isCount hasMark u16At
+counts = record {
+  one-1000 = refl;
+  one-1001 = refl;
+  two-0 = refl;
+  two-1000 = refl;
+  two-1001 = refl;
+  two-8000 = refl;
+  two-8001 = refl;
+  two-above-limit = refl;
 }

@@ -2,12 +2,14 @@
 -- Definitions only.
 use Prim.Native.Nat.{ℕ, zero, suc, _+_, _*_}
 use mathlib.Core.Bool.{Bool}
-use mathlib.Core.List.{List}
+use mathlib.Core.List.{List, [], _∷_}
 use lib.Dec.{eqb, leb}
 use lib.ListN.{length, take, drop}
 use Rattle.mrc_compiler.specs.declared.encoder.InstructionData.{InstructionData}
 use Rattle.mrc_compiler.specs.Choose.{pick, both, isnt}
 use Rattle.show_record.specs.Record.{recordLength, byteAt, instructionAt, codesKnown}
+use Rattle.show_file.specs.declared.Counts.{Counts}
+use Rattle.show_file.specs.declared.Counts.the-variants as C
 use Rattle.show_file.specs.declared.Header.{Header}
 use Rattle.show_file.specs.declared.LoadError.the-variants as E
 use Rattle.show_file.specs.declared.Opened.{Opened}
@@ -26,12 +28,25 @@ countPlace = 7
 abbrev pub headerLength : ℕ
 headerLength = 9
 
--- the version that is read, and the most records that it has
-abbrev pub knownVersion : ℕ
-knownVersion = 1
+-- ---- the versions: how many records a file of each has
+pub record Version : Type 0 where
+  pub number : ℕ
+  pub fewest : ℕ
+  pub most : ℕ
 
+abbrev version : ℕ → ℕ → ℕ → Version
+version v l m = record { number = v; fewest = l; most = m }
+
+abbrev pub versions : List Version
+versions = version 1 0 1000 ∷ version 2 1001 8000 ∷ []
+
+-- of any version
 abbrev pub mostRecords : ℕ
-mostRecords = 1000
+mostRecords = 8000
+
+abbrev pub countsIn : List Version → ℕ → Counts
+countsIn [] v = C.None
+countsIn (r ∷ rs) v = pick (eqb v (r .number)) (C.Between (r .fewest) (r .most)) (countsIn rs v)
 
 -- "FSQ"
 unfoldable pub hasMark : List ℕ → Bool
@@ -54,18 +69,23 @@ recordAt file k = take recordLength (drop (recordPlace k) file)
 abbrev pub insnAt : List ℕ → ℕ → InstructionData
 insnAt file k = instructionAt (recordAt file k)
 
--- ---- the loader's questions about the file itself: mark, header, version, count, exact length
-unfoldable pub headed : List ℕ → Opened
-headed file =
-    let h = header file in
-    pick (leb headerLength (length file))
-    (pick (eqb (h .version) knownVersion)
-    (pick (both (leb (h .count) mostRecords) (eqb (length file) (recordPlace (h .count)))) (O.Show h) (O.Refused E.WrongLength))
-    (O.Refused E.WrongVersion))
-    (O.Refused E.WrongLength)
+-- ---- the questions about the file itself: mark, header, version, count, exact length
+-- a count of its version, and not above the limit of who asks: the loader takes all of them, a program that prints a text fewer
+unfoldable pub isCount : ℕ → ℕ → ℕ → ℕ → Bool
+isCount limit fewest most n = both (leb fewest n) (both (leb n most) (leb n limit))
 
-unfoldable pub opened : List ℕ → Opened
-opened file = pick (hasMark file) (headed file) (O.Refused E.NoMark)
+abbrev pub counted : ℕ → List ℕ → Header → Counts → Opened
+counted limit file h C.None = O.Refused E.WrongVersion
+counted limit file h (C.Between fewest most) =
+    pick (both (isCount limit fewest most (h .count)) (eqb (length file) (recordPlace (h .count)))) (O.Show h) (O.Refused E.WrongLength)
+
+unfoldable pub headed : ℕ → List ℕ → Opened
+headed limit file =
+    let h = header file in
+    pick (leb headerLength (length file)) (counted limit file h (countsIn versions (h .version))) (O.Refused E.WrongLength)
+
+unfoldable pub opened : ℕ → List ℕ → Opened
+opened limit file = pick (hasMark file) (headed limit file) (O.Refused E.NoMark)
 
 -- ---- the first of records i, i + 1 .. (k of them) where f says yes, or i + k
 abbrev pub firstFrom : (ℕ → Bool) → ℕ → ℕ → ℕ

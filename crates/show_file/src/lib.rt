@@ -4,7 +4,7 @@ ghost use Prim.Native.Nat.{_<_, _≤_};
 ghost use lib.ListN.{length};
 ghost use Rattle.mrc_compiler.specs.Refusals.{reportOf};
 ghost use Rattle.show_file.specs.Refusals.{numberOf};
-ghost use Rattle.show_file.specs.Show.{u16At, hasMark, headed, opened, recordPlace, insnAt, firstUnknown, mostRecords};
+ghost use Rattle.show_file.specs.Show.{u16At, hasMark, versions, countsIn, isCount, headed, opened, recordPlace, insnAt, firstUnknown, mostRecords};
 use mrc_compiler::encoder::EncodeError;
 use mrc_compiler::encoder::InstructionData;
 
@@ -21,7 +21,7 @@ pub enum LoadError {
     // 13.
     WrongVersion,
 
-    // 14: the header is cut short, the count too high, or the file not of its count's length.
+    // 14: the header is cut short, the count none of its version or too high, or the file not of its count's length.
     WrongLength,
 
     // 15, with the first such record.
@@ -70,7 +70,37 @@ pub enum Opened {
 
 const HEADER_LENGTH: usize = 9;
 
-const MOST_RECORDS: u16 = 1000;
+// No version has more.
+pub const MOST_RECORDS: u16 = 8000;
+
+// The fewest and the most records of a file.
+pub enum Counts {
+    None,
+    Between(u16, u16),
+}
+
+// Those of a version's files.
+fn counts_of(version: u16) -> Counts
+    ensures { λ r. ⌜ r ≡ countsIn versions version ⌝ }
+{
+    match version {
+        1 => Counts::Between(0, 1000),
+        2 => Counts::Between(1001, 8000),
+        _ => Counts::None,
+    }
+}
+
+fn is_count(limit: u16, fewest: u16, most: u16, count: u16) -> bool
+    ensures { λ r. ⌜ r ≡ isCount limit fewest most count ⌝ }
+{
+    if count < fewest {
+        return false;
+    }
+    if most < count {
+        return false;
+    }
+    count <= limit
+}
 
 fn has_mark(file: &[u8]) -> bool
     ensures { λ r. ⌜ r ≡ hasMark (now (file .entry)) ⌝ }
@@ -92,8 +122,8 @@ fn u16_at(file: &[u8], at: usize) -> u16
 }
 
 // The questions behind the mark.
-fn header_of(file: &[u8]) -> Opened
-    ensures { λ r. ⌜ r ≡ headed (now (file .entry)) ⌝ }
+fn header_of(file: &[u8], limit: u16) -> Opened
+    ensures { λ r. ⌜ r ≡ headed limit (now (file .entry)) ⌝ }
 {
     if file.len() < HEADER_LENGTH {
         return Opened::Refused(LoadError::WrongLength);
@@ -101,28 +131,32 @@ fn header_of(file: &[u8]) -> Opened
     let version = u16_at(file, 3);
     let origin = u16_at(file, 5);
     let count = u16_at(file, 7);
-    if version != 1 {
-        return Opened::Refused(LoadError::WrongVersion);
+    let counts = counts_of(version);
+    match counts {
+        Counts::None => Opened::Refused(LoadError::WrongVersion),
+        Counts::Between(fewest, most) => {
+            if is_count(limit, fewest, most, count) {
+                if file.len() != HEADER_LENGTH + show_record::RECORD_LENGTH * count as usize {
+                    return Opened::Refused(LoadError::WrongLength);
+                }
+                Opened::Show(Header {
+                    version,
+                    origin,
+                    count,
+                })
+            } else {
+                Opened::Refused(LoadError::WrongLength)
+            }
+        },
     }
-    if MOST_RECORDS < count {
-        return Opened::Refused(LoadError::WrongLength);
-    }
-    if file.len() != HEADER_LENGTH + show_record::RECORD_LENGTH * count as usize {
-        return Opened::Refused(LoadError::WrongLength);
-    }
-    Opened::Show(Header {
-        version,
-        origin,
-        count,
-    })
 }
 
-// The questions about the file itself.
-pub fn open(file: &[u8]) -> Opened
-    ensures { λ r. ⌜ r ≡ opened (now (file .entry)) ⌝ }
+// The questions about the file itself; a count above the limit is refused as one above its version's.
+pub fn open(file: &[u8], limit: u16) -> Opened
+    ensures { λ r. ⌜ r ≡ opened limit (now (file .entry)) ⌝ }
 {
     if has_mark(file) {
-        header_of(file)
+        header_of(file, limit)
     } else {
         Opened::Refused(LoadError::NoMark)
     }

@@ -16,7 +16,7 @@ use Rattle.encode_spec.specs.Questions.{questions}
 use Rattle.encode_spec.specs.Answer.{answer}
 use Rattle.show_record.specs.Record.{operandAt, instructionAt, operandKnown, codesKnown}
 use Rattle.show_file.specs.declared.LoadError.the-variants as E
-use Rattle.show_file.specs.Show.{hasMark, u16At, headed, opened, isUnknown}
+use Rattle.show_file.specs.Show.{hasMark, u16At, isCount, headed, opened, isUnknown}
 use Rattle.show_file.proofs.Cases.{front, plain}
 use Rattle.show_load.specs.declared.Loaded.the-variants as L
 use Rattle.show_load.specs.Loading.{walk, isOver, showAccepted, loaded}
@@ -27,8 +27,8 @@ wrong mark v op = (mark ∷ 0x53 ∷ 0x51 ∷ v ∷ 0 ∷ 0 ∷ 0 ∷ 2 ∷ 0 �
 
 record Order : Type 0 where
   -- the mark before version, length, codes, records and image; the version before the last four
-  mark-first : (loaded (wrong 0x47 2 99) 0 ≡ L.Refused E.NoMark) × (loaded (wrong 0x47 1 82) 0 ≡ L.Refused E.NoMark)
-  version-next : (loaded (wrong 0x46 2 99) 0 ≡ L.Refused E.WrongVersion) × (loaded (wrong 0x46 2 82) 0 ≡ L.Refused E.WrongVersion)
+  mark-first : (loaded (wrong 0x47 3 99) 0 ≡ L.Refused E.NoMark) × (loaded (wrong 0x47 1 82) 0 ≡ L.Refused E.NoMark)
+  version-next : (loaded (wrong 0x46 3 99) 0 ≡ L.Refused E.WrongVersion) × (loaded (wrong 0x46 3 82) 0 ≡ L.Refused E.WrongVersion)
   -- the length before the codes
   length-before-codes : loaded (front 1 2 ++ plain 99 1) 0 ≡ L.Refused E.WrongLength
   length-before-records : loaded (front 1 2 ++ plain 82 1) 0 ≡ L.Refused E.WrongLength
@@ -36,7 +36,7 @@ record Order : Type 0 where
   codes-before-records : loaded (front 1 2 ++ (plain 82 1 ++ plain 99 2)) 0 ≡ L.Refused (E.UnknownCode 1)
 
 order : Order
-unfolding opened headed hasMark u16At showAccepted isUnknown codesKnown operandKnown operations
+unfolding opened headed isCount hasMark u16At showAccepted isUnknown codesKnown operandKnown operations
 order = record {
   mark-first = (refl, refl);
   version-next = (refl, refl);
@@ -62,5 +62,5 @@ record Room : Type 0 where
   first-refused : loaded (front 1 2 ++ (plain 82 1 ++ plain 95 2)) 0 ≡ L.Refused (E.Record 0 (N.NotSupported (at 1)))
 
 room : Room
-unfolding opened headed hasMark u16At showAccepted isUnknown isOver walk codesKnown operandKnown operations instructionAt operandAt answer questions wellFormed prefix groupedOf formsOf forms numberOf layout
+unfolding opened headed isCount hasMark u16At showAccepted isUnknown isOver walk codesKnown operandKnown operations instructionAt operandAt answer questions wellFormed prefix groupedOf formsOf forms numberOf layout
 room = record { no-room = refl; one-byte = refl; image-last = refl; first-refused = refl }

@@ -14,7 +14,7 @@ use Rattle.encode_spec.specs.Meaning.{meaning}
 use Rattle.encode_spec.specs.Answer.{bytes}
 use Rattle.encode_spec.proofs.Accepted.{Reads, accepted-reads}
 use Rattle.show_file.specs.declared.Header.{Header}
-use Rattle.show_file.specs.Show.{insnAt}
+use Rattle.show_file.specs.Show.{mostRecords, insnAt}
 use Rattle.show_load.specs.declared.Loaded.{Loaded}
 use Rattle.show_load.specs.declared.Loaded.the-variants as L
 use Rattle.show_load.specs.Loading.{offsetBehind, answerAt, walk, bytesIn, isAll, tooShort, firstOver, fitted, accepted, loaded, imageAfter}
@@ -75,7 +75,7 @@ module _ (file : List ℕ) (h : Header) (n : ℕ) (image : List ℕ) where
 
   pub show-reads : loaded file (length image) ≡ L.Image h n → (starts : ℕ → ℕ) × Loaded2 file h n starts image (imageAfter file image)
   show-reads q =
-      let a = accepted-image file h n (fits (accepted file) q) in
+      let a = accepted-image mostRecords file h n (fits (accepted mostRecords file) q) in
       let t = a .all-in in
       let o = h .origin in
       let c = h .count in

@@ -26,7 +26,8 @@ use Rattle.show_file.specs.declared.LoadError.{LoadError}
 use Rattle.show_file.specs.declared.LoadError.the-variants as LE
 use Rattle.show_file.specs.declared.Opened.{Opened}
 use Rattle.show_file.specs.declared.Opened.the-variants as O
-use Rattle.show_file.specs.Show.{headerLength, knownVersion, mostRecords, hasMark, header, recordPlace, insnAt, headed, opened, firstFrom, firstUnknown}
+use Rattle.show_file.specs.Show.{insnAt, opened, firstFrom, firstUnknown}
+use Rattle.show_file.proofs.Opening.{Exact, opened-exact}
 use Rattle.show_load.specs.declared.Loaded.the-variants as L
 use Rattle.show_load.specs.Loading.{Walk, all, stopped, offsetBehind, answerAt, bytesOf, followed, further, walk, bytesIn, isAll, isOver, firstOver, measured, showAccepted, acceptedBy, accepted}
 
@@ -222,60 +223,34 @@ over-below file origin size (suc n) h =
     let l = from-le (isOver file origin size) (suc n) 0 n (omega arith) (omega arith) (lt-ltb size (length (bytesIn (walk file origin (suc n)))) h) in
     omega arith
 
--- ---- an opened show has the length of its records
-pub record Exact (file : List ℕ) (h : Header) : Type 0 where
-  pub its-length : length file ≡ recordPlace (h .count)
-  pub its-count : h .count ≤ mostRecords
-
-shut : {e : LoadError} {h : Header} → O.Refused e ≡ O.Show h → ⊥
-shut q = let z : _≡_ {A = ℕ} 0 1 = cc in omega arith
-
-pub opened-exact : (file : List ℕ) (h : Header) → opened file ≡ O.Show h → Exact file h
-unfolding opened headed
-opened-exact file h q =
-    go (hasMark file) (leb headerLength (length file)) (eqb (header file .version) knownVersion) (leb (header file .count) mostRecords)
-    (eqb (length file) (recordPlace (header file .count))) refl refl q
-  where
-    go : (a b c d e : Bool) → leb (header file .count) mostRecords ≡ d → eqb (length file) (recordPlace (header file .count)) ≡ e
-        → pick a (pick b (pick c (pick (both d e) (O.Show (header file)) (O.Refused LE.WrongLength)) (O.Refused LE.WrongVersion)) (O.Refused LE.WrongLength)) (O.Refused LE.NoMark) ≡ O.Show h
-        → Exact file h
-    go true true true true true hd he q =
-        let e : header file ≡ h = cc in
-        rw (← e) (record { its-length = eqb-true (length file) (recordPlace (header file .count)) he; its-count = leb-true (header file .count) mostRecords hd })
-    go true true true true false hd he q = absurd (shut q)
-    go true true true false e hd he q = absurd (shut q)
-    go true true false d e hd he q = absurd (shut q)
-    go true false c d e hd he q = absurd (shut q)
-    go false b c d e hd he q = absurd (shut q)
-
 -- ---- an accepted show: the length of its records is asked, and each is accepted
-pub record Accepted (file : List ℕ) (h : Header) (n : ℕ) : Type 0 where
-  pub exact : Exact file h
+pub record Accepted (limit : ℕ) (file : List ℕ) (h : Header) (n : ℕ) : Type 0 where
+  pub exact : Exact limit file h
   pub all-in : isAll (walk file (h .origin) (h .count)) ≡ true
   pub size : n ≡ length (bytesIn (walk file (h .origin) (h .count)))
 
 pub refused-image : {x : LoadError} {h : Header} {n : ℕ} → L.Refused x ≡ L.Image h n → ⊥
 refused-image e = let z : _≡_ {A = ℕ} 0 1 = cc in omega arith
 
-module _ (file : List ℕ) (h : Header) (n : ℕ) where
+module _ (limit : ℕ) (file : List ℕ) (h : Header) (n : ℕ) where
   measured-image : (g : Header) (w : Walk) → measured g w ≡ L.Image h n → (g ≡ h) × (isAll w ≡ true) × (n ≡ length (bytesIn w))
   measured-image g (all bs) q = ((cc), refl, (cc))
   measured-image g (stopped k e) q = absurd (refused-image q)
 
-  show-image : (g : Header) → opened file ≡ O.Show g → showAccepted file g ≡ L.Image h n → Accepted file h n
+  show-image : (g : Header) → opened limit file ≡ O.Show g → showAccepted file g ≡ L.Image h n → Accepted limit file h n
   unfolding showAccepted
   show-image g e q = go (ltb (firstUnknown file (g .count)) (g .count)) q
     where
       go : (b : Bool) → pick b (L.Refused (LE.UnknownCode (firstUnknown file (g .count)))) (measured g (walk file (g .origin) (g .count))) ≡ L.Image h n
-          → Accepted file h n
+          → Accepted limit file h n
       go true q = absurd (refused-image q)
       go false q =
           let (same, t, size) = measured-image g (walk file (g .origin) (g .count)) q in
-          record { exact = opened-exact file h (rw same at e); all-in = rw same at t; size = rw same at size }
+          record { exact = opened-exact limit file h (rw same at e); all-in = rw same at t; size = rw same at size }
 
-  pub accepted-image : accepted file ≡ L.Image h n → Accepted file h n
-  accepted-image q = go (opened file) refl q
+  pub accepted-image : accepted limit file ≡ L.Image h n → Accepted limit file h n
+  accepted-image q = go (opened limit file) refl q
     where
-      go : (o : Opened) → opened file ≡ o → acceptedBy file o ≡ L.Image h n → Accepted file h n
+      go : (o : Opened) → opened limit file ≡ o → acceptedBy file o ≡ L.Image h n → Accepted limit file h n
       go (O.Show g) e q = show-image g e q
       go (O.Refused x) e q = absurd (refused-image q)

@@ -5,21 +5,21 @@ use mathlib.Core.Bool.{Bool, true, false}
 use mathlib.Core.List.{List}
 use Prim.Native.Nat.{ℕ, zero, suc, _<_}
 use native.Mathlib.Omega.{arith}
-use lib.Dec.{eqb, ltb, leb}
+use lib.Dec.{ltb}
 use lib.ListN.{length}
 use Rattle.mrc_compiler.specs.declared.encoder.EncodeError.{EncodeError}
-use Rattle.mrc_compiler.specs.Choose.{pick, both}
+use Rattle.mrc_compiler.specs.Choose.{pick}
 use Rattle.encode_spec.specs.Answer.{Answer, bytes, refused}
 use Rattle.show_file.specs.declared.Header.{Header}
 use Rattle.show_file.specs.declared.LoadError.{LoadError}
 use Rattle.show_file.specs.declared.LoadError.the-variants as LE
 use Rattle.show_file.specs.declared.Opened.{Opened}
 use Rattle.show_file.specs.declared.Opened.the-variants as O
-use Rattle.show_file.specs.Show.{headerLength, knownVersion, mostRecords, hasMark, header, recordPlace, headed, opened, firstUnknown}
+use Rattle.show_file.specs.Show.{header, opened, firstUnknown}
+use Rattle.show_file.proofs.Opening.{Exact, by-opening, opened-exact}
 use Rattle.show_load.specs.declared.Loaded.{Loaded}
 use Rattle.show_load.specs.declared.Loaded.the-variants as L
 use Rattle.show_load.specs.Loading.{Walk, all, stopped, answerAt, followed, further, walk, bytesIn, measured, showAccepted, acceptedBy, accepted}
-use Rattle.show_load.proofs.Laws.{Exact, opened-exact}
 
 -- ---- a walk stops at the record that is refused behind the bytes of those before it
 pub record Stops (file : List ℕ) (origin n k : ℕ) (e : EncodeError) : Type 0 where
@@ -44,63 +44,37 @@ walk-stops file origin (suc n) k e q = go (walk file origin n) refl (λ h. walk-
     go (stopped i x) h rest r = let s = rest (h ∙ r) in record { below = omega (arith, s .below); refuses = s .refuses }
 
 -- ---- the file
-pub record RefusedAt (file : List ℕ) (k : ℕ) (e : EncodeError) : Type 0 where
-  pub exact : Exact file (header file)
+pub record RefusedAt (limit : ℕ) (file : List ℕ) (k : ℕ) (e : EncodeError) : Type 0 where
+  pub exact : Exact limit file (header file)
   pub stops : Stops file (header file .origin) (header file .count) k e
 
-module _ (file : List ℕ) (k : ℕ) (e : EncodeError) where
+module _ (limit : ℕ) (file : List ℕ) (k : ℕ) (e : EncodeError) where
   -- no question about the file itself names a record
-  no-record : opened file ≡ O.Refused (LE.Record k e) → ⊥
-  unfolding opened headed
+  no-record : opened limit file ≡ O.Refused (LE.Record k e) → ⊥
   no-record =
-      go (hasMark file) (leb headerLength (length file)) (eqb (header file .version) knownVersion)
-      (both (leb (header file .count) mostRecords) (eqb (length file) (recordPlace (header file .count))))
-    where
-      go : (a b c d : Bool)
-          → pick a (pick b (pick c (pick d (O.Show (header file)) (O.Refused LE.WrongLength)) (O.Refused LE.WrongVersion)) (O.Refused LE.WrongLength)) (O.Refused LE.NoMark)
-          ≡ O.Refused (LE.Record k e) → ⊥
-      go true true true true q = let z : _≡_ {A = ℕ} 0 1 = cc in omega arith
-      go true true true false q = let z : _≡_ {A = ℕ} 0 1 = cc in omega arith
-      go true true false d q = let z : _≡_ {A = ℕ} 0 1 = cc in omega arith
-      go true false c d q = let z : _≡_ {A = ℕ} 0 1 = cc in omega arith
-      go false b c d q = let z : _≡_ {A = ℕ} 0 1 = cc in omega arith
-
-  -- a show has the header of its file
-  its-header : (h : Header) → opened file ≡ O.Show h → header file ≡ h
-  unfolding opened headed
-  its-header h =
-      go (hasMark file) (leb headerLength (length file)) (eqb (header file .version) knownVersion)
-      (both (leb (header file .count) mostRecords) (eqb (length file) (recordPlace (header file .count))))
-    where
-      go : (a b c d : Bool)
-          → pick a (pick b (pick c (pick d (O.Show (header file)) (O.Refused LE.WrongLength)) (O.Refused LE.WrongVersion)) (O.Refused LE.WrongLength)) (O.Refused LE.NoMark)
-          ≡ O.Show h → header file ≡ h
-      go true true true true q = cc
-      go true true true false q = let z : _≡_ {A = ℕ} 0 1 = cc in absurd (omega arith)
-      go true true false d q = let z : _≡_ {A = ℕ} 0 1 = cc in absurd (omega arith)
-      go true false c d q = let z : _≡_ {A = ℕ} 0 1 = cc in absurd (omega arith)
-      go false b c d q = let z : _≡_ {A = ℕ} 0 1 = cc in absurd (omega arith)
+      by-opening limit file (λ o. o ≡ O.Refused (LE.Record k e) → ⊥) (λ q. let z : _≡_ {A = ℕ} 0 1 = cc in omega arith) (λ q. let z : _≡_ {A = ℕ} 0 1 = cc in omega arith)
+      (λ q. let z : _≡_ {A = ℕ} 0 1 = cc in omega arith) (λ x q. let z : _≡_ {A = ℕ} 0 1 = cc in omega arith)
 
   measured-stops : (h : Header) (w : Walk) → measured h w ≡ L.Refused (LE.Record k e) → w ≡ stopped k e
   measured-stops h (all bs) q = let z : _≡_ {A = ℕ} 0 1 = cc in absurd (omega arith)
   measured-stops h (stopped i x) q = cc
 
-  show-refused : opened file ≡ O.Show (header file) → showAccepted file (header file) ≡ L.Refused (LE.Record k e) → RefusedAt file k e
+  show-refused : opened limit file ≡ O.Show (header file) → showAccepted file (header file) ≡ L.Refused (LE.Record k e) → RefusedAt limit file k e
   unfolding showAccepted
   show-refused o = go (ltb (firstUnknown file (header file .count)) (header file .count))
     where
       go : (b : Bool) → pick b (L.Refused (LE.UnknownCode (firstUnknown file (header file .count)))) (measured (header file) (walk file (header file .origin) (header file .count)))
-          ≡ L.Refused (LE.Record k e) → RefusedAt file k e
+          ≡ L.Refused (LE.Record k e) → RefusedAt limit file k e
       go true q = let z : _≡_ {A = ℕ} 0 1 = cc in absurd (omega arith)
       go false q =
           record {
-            exact = opened-exact file (header file) o;
+            exact = opened-exact limit file (header file) o;
             stops = walk-stops file (header file .origin) (header file .count) k e (measured-stops (header file) _ q);
           }
 
-  pub refused-at : accepted file ≡ L.Refused (LE.Record k e) → RefusedAt file k e
-  refused-at = go (opened file) refl
+  pub refused-at : accepted limit file ≡ L.Refused (LE.Record k e) → RefusedAt limit file k e
+  refused-at = go (opened limit file) refl
     where
-      go : (o : Opened) → opened file ≡ o → acceptedBy file o ≡ L.Refused (LE.Record k e) → RefusedAt file k e
-      go (O.Show h) o q = let s = its-header h o in show-refused (rw s o) (rw s q)
+      go : (o : Opened) → opened limit file ≡ o → acceptedBy file o ≡ L.Refused (LE.Record k e) → RefusedAt limit file k e
+      go (O.Show h) o q = let s = opened-exact limit file h o .its-header in show-refused (rw s o) (rw s q)
       go (O.Refused x) o q = let z : x ≡ LE.Record k e = cc in absurd (no-record (rw z at o))

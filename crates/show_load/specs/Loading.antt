@@ -13,7 +13,7 @@ use Rattle.show_file.specs.declared.Header.{Header}
 use Rattle.show_file.specs.declared.LoadError.the-variants as E
 use Rattle.show_file.specs.declared.Opened.{Opened}
 use Rattle.show_file.specs.declared.Opened.the-variants as O
-use Rattle.show_file.specs.Show.{opened, insnAt, firstFrom, firstUnknown}
+use Rattle.show_file.specs.Show.{mostRecords, opened, insnAt, firstFrom, firstUnknown}
 use Rattle.show_load.specs.declared.Loaded.{Loaded}
 use Rattle.show_load.specs.declared.Loaded.the-variants as L
 
@@ -81,9 +81,9 @@ abbrev pub acceptedBy : List ℕ → Opened → Loaded
 acceptedBy file (O.Show h) = showAccepted file h
 acceptedBy file (O.Refused e) = L.Refused e
 
--- the file, then its records
-abbrev pub accepted : List ℕ → Loaded
-accepted file = acceptedBy file (opened file)
+-- the file, of no more records than the limit, then its records
+abbrev pub accepted : ℕ → List ℕ → Loaded
+accepted limit file = acceptedBy file (opened limit file)
 
 -- 9, with the first record that does not fit
 abbrev pub tooShort : List ℕ → ℕ → Loaded
@@ -95,7 +95,7 @@ fitted file size (L.Refused e) = L.Refused e
 
 -- then the image
 abbrev pub loaded : List ℕ → ℕ → Loaded
-loaded file size = fitted file size (accepted file)
+loaded file size = fitted file size (accepted mostRecords file)
 
 -- ---- the image afterwards: the records' bytes at the front, or what it was
 abbrev pub placed : List ℕ → List ℕ → Loaded → List ℕ

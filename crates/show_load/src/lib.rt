@@ -14,6 +14,7 @@ use encoder::write_run;
 use mrc_compiler::encoder::EncodeError;
 use show_file::Header;
 use show_file::LoadError;
+use show_file::MOST_RECORDS;
 use show_file::Opened;
 use show_file::first_unknown;
 use show_file::insn_at;
@@ -68,11 +69,11 @@ fn measure(file: &[u8], header: Header) -> Loaded
     Loaded::Image(header, at)
 }
 
-// The questions about the file, then its records: the header and the length of the image, or the refusal.
-pub fn accept(file: &[u8]) -> Loaded
-    ensures { λ r. ⌜ r ≡ accepted (now (file .entry)) ⌝ }
+// The questions about the file, of no more records than the limit, then its records: the header and the length of the image, or the refusal.
+pub fn accept(file: &[u8], limit: u16) -> Loaded
+    ensures { λ r. ⌜ r ≡ accepted limit (now (file .entry)) ⌝ }
 {
-    let show = open(file);
+    let show = open(file, limit);
     match show {
         Opened::Refused(e) => Loaded::Refused(e),
         Opened::Show(header) => {
@@ -149,7 +150,7 @@ pub fn load(file: &[u8], image: &mut [u8]) -> Loaded
     ensures { λ r. ⌜ r ≡ loaded (now (file .entry)) (length (now (image .entry))) ⌝ }
     ensures { λ _. ⌜ now (image .exit) ≡ imageAfter (now (file .entry)) (now (image .entry)) ⌝ }
 {
-    let show = accept(file);
+    let show = accept(file, MOST_RECORDS);
     match show {
         Loaded::Refused(e) => Loaded::Refused(e),
         Loaded::Image(header, m) => {

@@ -1,4 +1,4 @@
--- A record of a show file, version 1: 56 bytes, little-endian (REFERENCE 8). Bytes past the end count as 0.
+-- A record of a show file: 56 bytes, little-endian (REFERENCE 8). Bytes past the end count as 0.
 -- Definitions only.
 use Prim.Native.Nat.{ℕ, _+_, _*_}
 use mathlib.Core.Bool.{Bool}

@@ -1,4 +1,4 @@
--- An input that does not fit the buffer prints what it would print whole: it is longer than any show file.
+-- An input that does not fit the buffer prints what it would print whole: it is longer than any show that is printed.
 -- Assumes nothing.
 use mathlib.Core.Path.{_≡_, refl, sym, _∙_}
 use mathlib.Core.Bool.{Bool, true, false}
@@ -10,49 +10,53 @@ use lib.ListN.{length, take}
 use lib.Seq.{length-take-le, take-all, getD-take}
 use borrow.Author.Tests.{le-leb, leb-true, leb-false, ne-eqb}
 use Rattle.mrc_compiler.specs.Choose.{pick, both}
+use Rattle.show_file.specs.declared.Counts.{Counts}
+use Rattle.show_file.specs.declared.Counts.the-variants as C
 use Rattle.show_file.specs.declared.LoadError.{LoadError}
 use Rattle.show_file.specs.declared.LoadError.the-variants as E
 use Rattle.show_file.specs.declared.Opened.the-variants as O
-use Rattle.show_file.specs.Show.{headerLength, versionPlace, knownVersion, mostRecords, hasMark, u16At, header, recordPlace, headed, opened}
-use Rattle.show_text.specs.Text.{refusedLine, refusedGround, text}
+use Rattle.show_file.specs.Show.{headerLength, versionPlace, versions, countsIn, hasMark, u16At, header, recordPlace, isCount, counted, headed, opened}
+use Rattle.show_text.specs.Text.{refusedLine, textRecords, refusedGround, text}
 
--- the longest show file
+-- the longest show file that is printed
 abbrev longest : ℕ
-longest = recordPlace mostRecords
+longest = recordPlace textRecords
 
 -- why a longer one is refused
+abbrev whyCounted : Counts → LoadError
+whyCounted C.None = E.WrongVersion
+whyCounted (C.Between l m) = E.WrongLength
+
 abbrev why : List ℕ → LoadError
-why s = pick (hasMark s) (pick (eqb (u16At s versionPlace) knownVersion) E.WrongLength E.WrongVersion) E.NoMark
+why s = pick (hasMark s) (whyCounted (countsIn versions (u16At s versionPlace))) E.NoMark
 
-not-exact : (s : List ℕ) → longest < length s → both (leb (header s .count) mostRecords) (eqb (length s) (recordPlace (header s .count))) ≡ false
-not-exact s l = go (leb (header s .count) mostRecords) refl
+opened-long : (s : List ℕ) → longest < length s → opened textRecords s ≡ O.Refused (why s)
+unfolding opened headed isCount
+opened-long s l = rw (le-leb headerLength (length s) (omega arith)) (go (hasMark s) (countsIn versions (u16At s versionPlace)))
   where
-    go : (t : Bool) → leb (header s .count) mostRecords ≡ t → both t (eqb (length s) (recordPlace (header s .count))) ≡ false
-    go false h = refl
-    go true h =
-        let few = leb-true (header s .count) mostRecords h in
+    -- a count within the limit is that of a shorter file
+    not-exact : (a b c : Bool) → leb (header s .count) textRecords ≡ c → both (both a (both b c)) (eqb (length s) (recordPlace (header s .count))) ≡ false
+    not-exact true true true h =
+        let few = leb-true (header s .count) textRecords h in
         ne-eqb (length s) (recordPlace (header s .count)) (λ e. omega arith)
+    not-exact true true false h = refl
+    not-exact true false c h = refl
+    not-exact false b c h = refl
 
-opened-long : (s : List ℕ) → longest < length s → opened s ≡ O.Refused (why s)
-unfolding opened headed
-opened-long s l =
-    rw (not-exact s l, le-leb headerLength (length s) (omega arith)) (go (hasMark s) (eqb (u16At s versionPlace) knownVersion))
-  where
-    go : (a b : Bool)
-        → pick a (pick b (O.Refused E.WrongLength) (O.Refused E.WrongVersion)) (O.Refused E.NoMark) ≡ O.Refused (pick a (pick b E.WrongLength E.WrongVersion) E.NoMark)
-    go true true = refl
-    go true false = refl
-    go false b = refl
+    go : (a : Bool) (c : Counts) → pick a (counted textRecords s (header s) c) (O.Refused E.NoMark) ≡ O.Refused (pick a (whyCounted c) E.NoMark)
+    go true C.None = refl
+    go true (C.Between f m) = rw (not-exact (leb f (header s .count)) (leb (header s .count) m) (leb (header s .count) textRecords) refl)
+    go false c = refl
 
 -- no record is named, so that there is no ground
 no-ground : (forms : Bool) (s : List ℕ) → pick forms (refusedGround s (why s)) [] ≡ []
 no-ground false s = refl
-no-ground true s = go (hasMark s) (eqb (u16At s versionPlace) knownVersion)
+no-ground true s = go (hasMark s) (countsIn versions (u16At s versionPlace))
   where
-    go : (a b : Bool) → refusedGround s (pick a (pick b E.WrongLength E.WrongVersion) E.NoMark) ≡ []
-    go true true = refl
-    go true false = refl
-    go false b = refl
+    go : (a : Bool) (c : Counts) → refusedGround s (pick a (whyCounted c) E.NoMark) ≡ []
+    go true C.None = refl
+    go true (C.Between f m) = refl
+    go false c = refl
 
 text-long : (forms : Bool) (s : List ℕ) → longest < length s → text forms s ≡ refusedLine (why s)
 unfolding text

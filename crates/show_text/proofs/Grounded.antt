@@ -22,7 +22,7 @@ use Rattle.show_load.specs.Loading.{accepted}
 use Rattle.show_load.proofs.Laws.{accepted-image, answered-all}
 use Rattle.show_load.proofs.Demand2.{upto}
 use Rattle.show_load.proofs.Refused.{refused-at}
-use Rattle.show_text.specs.Text.{groundAt, recordText}
+use Rattle.show_text.specs.Text.{groundAt, recordText, textRecords}
 use Rattle.show_text.specs.Grounded.{offsetOf, SaysQuestion, SaysForm}
 use Rattle.show_text.proofs.Shown.{text-is}
 
@@ -31,20 +31,20 @@ its-ground : (file : List ℕ) (origin k : ℕ) (g : Ground) → ground (insnAt 
 its-ground file origin k g e =
     subst (Grounded (insnAt file k) (offsetOf file origin k)) e (grounded (insnAt file k) (offsetOf file origin k) (omega arith))
 
-pub says-question : (file : List ℕ) (k : ℕ) (e : EncodeError) → accepted file ≡ L.Refused (E.Record k e) → SaysQuestion file k e
+pub says-question : (file : List ℕ) (k : ℕ) (e : EncodeError) → accepted textRecords file ≡ L.Refused (E.Record k e) → SaysQuestion file k e
 unfolding groundAt
 says-question file k e q =
-    let g = question-of-refusal (insnAt file k) (offsetOf file (header file .origin) k) (omega arith) e (refused-at file k e q .stops .refuses) in
+    let g = question-of-refusal (insnAt file k) (offsetOf file (header file .origin) k) (omega arith) e (refused-at textRecords file k e q .stops .refuses) in
     record {
       number = questionBy e (insnAt file k);
       prints = text-is true file (L.Refused (E.Record k e)) q ∙ rw g refl;
       refuses = its-ground file (header file .origin) k (G.Question (questionBy e (insnAt file k))) g;
     }
 
-pub says-form : (file : List ℕ) (h : Header) (n : ℕ) → accepted file ≡ L.Image h n → (k : ℕ) → k < h .count → SaysForm file (h .origin) k
+pub says-form : (file : List ℕ) (h : Header) (n : ℕ) → accepted textRecords file ≡ L.Image h n → (k : ℕ) → k < h .count → SaysForm file (h .origin) k
 unfolding recordText groundAt
 says-form file h n q k below =
-    let x = accepted-image file h n q in
+    let x = accepted-image textRecords file h n q in
     let (bs, a) = answered-all file (h .origin) k _ (upto file (h .origin) (h .count) (x .all-in) k (omega arith)) (h .count) (x .all-in) below in
     let g = form-of-list (insnAt file k) (offsetOf file (h .origin) k) (omega arith) bs a in
     let w = writtenIn bs (insnAt file k) in

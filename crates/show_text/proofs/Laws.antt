@@ -17,7 +17,7 @@ use Rattle.encode_codes.specs.Emit.{emitted}
 use Rattle.show_file.specs.declared.Header.{Header}
 use Rattle.show_file.specs.declared.LoadError.{LoadError}
 use Rattle.show_file.specs.declared.LoadError.the-variants as E
-use Rattle.show_file.specs.Show.{mostRecords, header, insnAt}
+use Rattle.show_file.specs.Show.{header, insnAt}
 use Rattle.show_file.specs.Refusals.{numberOf}
 use Rattle.show_load.specs.declared.Loaded.the-variants as L
 use Rattle.show_load.specs.Loading.{offsetBehind, answerAt, bytesOf, walk, bytesIn, isAll, accepted}
@@ -29,7 +29,7 @@ use Rattle.text_line.proofs.Laws.{then, byte, Holds, line-holds, hex-word-lengt
 use Rattle.encode_form.specs.Ground.{ground}
 use Rattle.text_form.specs.Lines.{mostGround}
 use Rattle.text_form.proofs.Laws.{ground-length}
-use Rattle.show_text.specs.Text.{firstLine, lineOf, recordOf, refusedLine, recordLine, groundAt, recordText, linesOf, refusedGround, mostLine, mostRecord}
+use Rattle.show_text.specs.Text.{firstLine, lineOf, recordOf, refusedLine, recordLine, groundAt, recordText, linesOf, textRecords, refusedGround, mostLine, mostRecord}
 use Rattle.show_text.specs.Forms.{formAt, questionOf}
 use Rattle.show_text.proofs.Grounds.{ground-accepted, ground-refused}
 
@@ -139,7 +139,7 @@ refused-text-length forms file e =
     rw (length-append (refusedLine e) (pick forms (refusedGround file e) [])) (omega arith)
 
 -- by what the code appends
-pub refused-holds : (forms : Bool) (file : List ℕ) (x : LoadError) → accepted file ≡ L.Refused x → {line text : Line} → line ≡ appended emptyLine (refusedLine x)
+pub refused-holds : (forms : Bool) (file : List ℕ) (x : LoadError) → accepted textRecords file ≡ L.Refused x → {line text : Line} → line ≡ appended emptyLine (refusedLine x)
     → text ≡ appended line (pick forms (questionOf file x) []) → Holds text (refusedText forms file x)
 refused-holds forms file x q {line} {text} hl ht =
     let l = refused-text-length forms file x in
@@ -172,7 +172,7 @@ room-for : (forms : Bool) (k n x y : ℕ) → k < n → x ≤ mostRecord forms *
 room-for true k n x y h a b = omega arith
 room-for false k n x y h a b = omega arith
 
-pub room-of : (forms : Bool) (n : ℕ) → n ≤ mostRecords → mostRecord forms * n ≤ mostRecord forms * mostRecords
+pub room-of : (forms : Bool) (n : ℕ) → n ≤ textRecords → mostRecord forms * n ≤ mostRecord forms * textRecords
 room-of true n h = omega arith
 room-of false n h = omega arith
 

@@ -16,34 +16,36 @@ use Rattle.encode_spec.proofs.Outcomes.{numberIn, answer-below}
 use Rattle.show_file.specs.declared.Header.{Header}
 use Rattle.show_file.specs.declared.LoadError.{LoadError}
 use Rattle.show_file.specs.declared.LoadError.the-variants as E
-use Rattle.show_file.specs.declared.Opened.{Opened}
-use Rattle.show_file.specs.declared.Opened.the-variants as O
-use Rattle.show_file.specs.Show.{headerLength, knownVersion, mostRecords, hasMark, header, recordPlace, insnAt, headed, opened, firstUnknown}
+use Rattle.show_file.specs.Show.{header, insnAt, firstUnknown}
+use Rattle.show_file.proofs.Opening.{by-opening}
 use Rattle.show_file.specs.Refusals.{numberOf}
 use Rattle.show_load.specs.declared.Loaded.{Loaded}
 use Rattle.show_load.specs.declared.Loaded.the-variants as L
-use Rattle.show_load.specs.Loading.{Walk, all, stopped, offsetBehind, answerAt, followed, further, walk, measured, showAccepted, acceptedBy, accepted, fitted, loaded}
+use Rattle.show_load.specs.Loading.{Walk, all, stopped, offsetBehind, answerAt, followed, further, walk, measured, showAccepted, acceptedBy, accepted, fitted}
 use Rattle.show_load.proofs.Laws.{accepted-image, within-seven, Front, front-is, front-next, lent, lent-length}
 use Rattle.text_line.specs.declared.Line.{Line}
 use Rattle.text_line.specs.Steps.{lineLength, emptyLine, appended}
-use Rattle.show_text.specs.Text.{firstLine, refusedLine, linesOf, imageLength, showText, refusedGround, textBy, text, mostLine, mostRecord, mostText, listed}
+use Rattle.show_text.specs.Text.{firstLine, refusedLine, linesOf, textRecords, imageLength, showText, refusedGround, textBy, text, mostLine, mostRecord, mostText, listed}
 use Rattle.show_text.specs.declared.Listed.the-variants.{Length as Listed·Length, TooShort as Listed·TooShort}
 use Rattle.show_text.proofs.Laws.{first-length, first-holds, refused-text-length, lines-short, room-of}
 
--- ---- an image of 7,000 bytes holds every show: a record has at most seven
-pub all-fit : (file : List ℕ) → loaded file imageLength ≡ accepted file
-all-fit file = go (accepted file) refl
+-- ---- an image of 7,000 bytes holds every show that is printed: a record has at most seven
+abbrev taken : List ℕ → Loaded
+taken file = accepted textRecords file
+
+pub all-fit : (file : List ℕ) → fitted file imageLength (taken file) ≡ taken file
+all-fit file = go (taken file) refl
   where
-    go : (l : Loaded) → accepted file ≡ l → fitted file imageLength l ≡ l
+    go : (l : Loaded) → taken file ≡ l → fitted file imageLength l ≡ l
     go (L.Refused e) q = refl
     go (L.Image h n) q =
-        let x = accepted-image file h n q in
+        let x = accepted-image textRecords file h n q in
         let w = within-seven file (h .origin) (h .count) in
-        let few = x .exact .its-count in
+        let few = x .exact .its-limit in
         let e = x .size in
         rw (le-leb n imageLength (omega arith))
 
-pub text-is : (forms : Bool) (file : List ℕ) (l : Loaded) → accepted file ≡ l → text forms file ≡ textBy forms file l
+pub text-is : (forms : Bool) (file : List ℕ) (l : Loaded) → taken file ≡ l → text forms file ≡ textBy forms file l
 unfolding text
 text-is forms file l e = rw (all-fit file, e) refl
 
@@ -51,12 +53,12 @@ text-is forms file l e = rw (all-fit file, e) refl
 module _ (forms : Bool) (file : List ℕ) where
   text-most : length (text forms file) ≤ mostText forms
   unfolding showText
-  text-most = go (accepted file) refl
+  text-most = go (taken file) refl
     where
-      go : (l : Loaded) → accepted file ≡ l → length (text forms file) ≤ mostText forms
+      go : (l : Loaded) → taken file ≡ l → length (text forms file) ≤ mostText forms
       go (L.Refused e) q = let a = refused-text-length forms file e in rw (text-is forms file (L.Refused e) q) (omega arith)
       go (L.Image h n) q =
-          let few = room-of forms (h .count) (accepted-image file h n q .exact .its-count) in
+          let few = room-of forms (h .count) (accepted-image textRecords file h n q .exact .its-limit) in
           let a = first-length h in
           let b = lines-short forms file (h .origin) (h .count) in
           rw (text-is forms file (L.Image h n) q, length-append (firstLine h) (linesOf forms file (h .origin) (h .count))) (omega arith)
@@ -75,7 +77,7 @@ module _ (forms : Bool) (file : List ℕ) where
       go false h e = let z : _≡_ {A = ℕ} 0 1 = cc in absurd (omega arith)
 
 -- ---- the first line, and the others behind it
-module _ (forms : Bool) (file : List ℕ) (h : Header) (few : h .count ≤ mostRecords) (out₀ : List ℕ) (room : mostText forms ≤ length out₀) (line : Line)
+module _ (forms : Bool) (file : List ℕ) (h : Header) (few : h .count ≤ textRecords) (out₀ : List ℕ) (room : mostText forms ≤ length out₀) (line : Line)
     (hl : line ≡ appended emptyLine (firstLine h)) where
   abbrev lines : List ℕ
   lines = linesOf forms file (h .origin) (h .count)
@@ -145,19 +147,9 @@ show-not file h = go (ltb (firstUnknown file (h .count)) (h .count))
     go false = measured-not h (walk file (h .origin) (h .count)) (walk-below file (h .origin) (h .count))
 
 -- a file that does not open is refused with 12, 13 or 14
-accepted-not : (file : List ℕ) → NotNine (accepted file)
-unfolding opened headed
+accepted-not : (file : List ℕ) → NotNine (taken file)
 accepted-not file =
-    go (hasMark file) (leb headerLength (length file)) (eqb (header file .version) knownVersion)
-    (both (leb (header file .count) mostRecords) (eqb (length file) (recordPlace (header file .count))))
-  where
-    go : (a b c d : Bool)
-        → NotNine (acceptedBy file (pick a (pick b (pick c (pick d (O.Show (header file)) (O.Refused E.WrongLength)) (O.Refused E.WrongVersion)) (O.Refused E.WrongLength)) (O.Refused E.NoMark)))
-    go true true true true = show-not file (header file)
-    go true true true false = λ q. omega arith
-    go true true false d = λ q. omega arith
-    go true false c d = λ q. omega arith
-    go false b c d = λ q. omega arith
+    by-opening textRecords file (λ o. NotNine (acceptedBy file o)) (λ q. omega arith) (λ q. omega arith) (λ q. omega arith) (λ x. show-not file (header file))
 
-pub never-nine : (file : List ℕ) (e : LoadError) → loaded file imageLength ≡ L.Refused e → numberOf e ≡ 9 → ⊥
-never-nine file e q = let n = accepted-not file in rw (← (all-fit file), q) at n
+pub never-nine : (file : List ℕ) (e : LoadError) → taken file ≡ L.Refused e → numberOf e ≡ 9 → ⊥
+never-nine file e q = let n = accepted-not file in rw q at n

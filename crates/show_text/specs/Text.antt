@@ -9,11 +9,11 @@ use Rattle.mrc_compiler.specs.Choose.{pick}
 use Rattle.show_file.specs.declared.Header.{Header}
 use Rattle.show_file.specs.declared.LoadError.{LoadError}
 use Rattle.show_file.specs.declared.LoadError.the-variants as E
-use Rattle.show_file.specs.Show.{mostRecords, header, insnAt}
+use Rattle.show_file.specs.Show.{header, insnAt}
 use Rattle.show_file.specs.Refusals.{numberOf}
 use Rattle.show_load.specs.declared.Loaded.{Loaded}
 use Rattle.show_load.specs.declared.Loaded.the-variants as L
-use Rattle.show_load.specs.Loading.{offsetBehind, answerAt, bytesOf, walk, bytesIn, loaded}
+use Rattle.show_load.specs.Loading.{offsetBehind, answerAt, bytesOf, walk, bytesIn, accepted, fitted}
 use Rattle.encode_form.specs.Ground.{ground}
 use Rattle.text_line.specs.Numbers.{blank, lineFeed, hexWord, hexBytes, decimal}
 use Rattle.text_form.specs.Lines.{groundLine, mostGround}
@@ -66,9 +66,13 @@ unfoldable pub linesOf : Bool → List ℕ → ℕ → ℕ → List ℕ
 linesOf forms file origin zero = []
 linesOf forms file origin (suc k) = linesOf forms file origin k ++ recordText forms file origin k
 
--- an image that holds every show: records have at most seven bytes
+-- ---- the shows that are printed: the loader takes longer ones
+abbrev pub textRecords : ℕ
+textRecords = 1000
+
+-- an image that holds each of them: records have at most seven bytes
 abbrev pub imageLength : ℕ
-imageLength = 7 * mostRecords
+imageLength = 7 * textRecords
 
 unfoldable pub showText : Bool → List ℕ → Header → List ℕ
 showText forms file h = firstLine h ++ linesOf forms file (h .origin) (h .count)
@@ -86,7 +90,7 @@ textBy forms file (L.Image h n) = showText forms file h
 textBy forms file (L.Refused e) = refusedLine e ++ pick forms (refusedGround file e) []
 
 unfoldable pub text : Bool → List ℕ → List ℕ
-text forms file = textBy forms file (loaded file imageLength)
+text forms file = textBy forms file (fitted file imageLength (accepted textRecords file))
 
 -- ---- a slice that is lent for the text
 -- no line is longer, but that of a ground
@@ -98,7 +102,7 @@ abbrev pub mostRecord : Bool → ℕ
 mostRecord forms = mostLine + pick forms mostGround 0
 
 abbrev pub mostText : Bool → ℕ
-mostText forms = mostLine + mostRecord forms * mostRecords
+mostText forms = mostLine + mostRecord forms * textRecords
 
 unfoldable pub listed : Bool → List ℕ → ℕ → Listed
 listed forms file size = pick (leb (mostText forms) size) (T.Length (length (text forms file))) T.TooShort

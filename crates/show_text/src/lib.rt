@@ -12,7 +12,7 @@ ghost use Rattle.show_load.specs.Loading.{walk, isAll, accepted};
 ghost use Rattle.text_form.specs.Lines.{questionLine};
 ghost use Rattle.text_line.specs.Numbers.{hexBytes};
 ghost use Rattle.text_line.specs.Steps.{emptyLine, appended};
-ghost use Rattle.show_text.specs.Text.{firstLine, lineOf, recordOf, refusedLine, linesOf, showText, mostRecord, mostText, listed, sliceAfter};
+ghost use Rattle.show_text.specs.Text.{firstLine, lineOf, recordOf, refusedLine, linesOf, textRecords, showText, mostRecord, mostText, listed, sliceAfter};
 ghost use Rattle.show_text.specs.Forms.{formAt, questionOf};
 use encode_run::ByteRun;
 use mrc_compiler::encoder::EncodeError;
@@ -33,6 +33,9 @@ pub enum Listed {
     Length(usize),
     TooShort,
 }
+
+// A show of more records is refused, as one of more than its version has.
+const TEXT_RECORDS: u16 = 1000;
 
 // What a slice must hold to be lent: no text is longer.
 pub const MOST_TEXT: usize = 32032;
@@ -132,7 +135,7 @@ fn push_question_at(line: Line, file: &[u8], n: usize, k: usize, error: EncodeEr
 
 // The question behind the line of a refusal. A file that is asked about its records has so many as its length holds.
 fn push_question_of(line: Line, file: &[u8], error: LoadError, forms: bool) -> Line
-    requires { ⌜ accepted (now file) ≡ Refused error ⌝ }
+    requires { ⌜ accepted textRecords (now file) ≡ Refused error ⌝ }
     ensures { λ r. ⌜ r ≡ appended line (pick forms (questionOf (now (file .entry)) error) []) ⌝ }
 {
     if forms {
@@ -179,7 +182,7 @@ fn write_lines(file: &[u8], n: usize, origin: u16, forms: bool, out: &mut [u8]) 
 
 // The first line, and the texts of the records behind it.
 fn write_show(file: &[u8], header: Header, forms: bool, out: &mut [u8]) -> usize
-    requires { ⌜ (length (now file) ≡ recordPlace (header .count)) × (header .count ≤ mostRecords) × (isAll (walk (now file) (header .origin) (header .count)) ≡ true) × (mostText forms ≤ length (now out)) ⌝ }
+    requires { ⌜ (length (now file) ≡ recordPlace (header .count)) × (header .count ≤ textRecords) × (isAll (walk (now file) (header .origin) (header .count)) ≡ true) × (mostText forms ≤ length (now out)) ⌝ }
     ensures { λ r. ⌜ r ≡ length (showText forms (now (file .entry)) header) ⌝ }
     ensures { λ _. ⌜ now (out .exit) ≡ showText forms (now (file .entry)) header ++ drop (length (showText forms (now (file .entry)) header)) (now (out .entry)) ⌝ }
 {
@@ -207,7 +210,7 @@ fn write(file: &[u8], forms: bool, out: &mut [u8]) -> Listed
     if out.len() < most {
         return Listed::TooShort;
     }
-    let show = show_load::accept(file);
+    let show = show_load::accept(file, TEXT_RECORDS);
     match show {
         Loaded::Refused(e) => {
             let line = refused_line(e);

@@ -62,13 +62,15 @@ pub const FSQ_LIST_LENGTH: usize = 96;
 pub const FSQ_FORM_LENGTH: usize = 64;
 pub const FSQ_HEADER_LENGTH: usize = 9;
 pub const FSQ_OPERAND_LENGTH: usize = 23;
-pub const FSQ_IMAGE_LENGTH: usize = 7000;
-pub const FSQ_FILE_LENGTH: usize = 56009;
+pub const FSQ_IMAGE_LENGTH: usize = 56000;
+pub const FSQ_FILE_LENGTH: usize = 448009;
 
 // enum fsq_limit
-pub const FSQ_MOST_RECORDS: u16 = 1000;
+pub const FSQ_MOST_RECORDS: u16 = 8000;
+pub const FSQ_SHORT_RECORDS: u16 = 1000;
 pub const FSQ_MOST_ENTRIES: u16 = 12;
 pub const FSQ_FILE_VERSION: u16 = 1;
+pub const FSQ_LONG_VERSION: u16 = 2;
 
 // enum fsq_report
 pub const FSQ_REPORT_LENGTH_AT: usize = 0;

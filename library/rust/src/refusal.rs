@@ -43,9 +43,9 @@ pub enum Reason {
     NotComplete,
     /// 12: the file does not begin with `FSQ`.
     NoMark,
-    /// 13: the file's version is not 1.
+    /// 13: the file's version is neither 1 nor 2.
     WrongVersion,
-    /// 14: the file or the record is shorter or longer than it says.
+    /// 14: the file or the record is shorter or longer than it says, or the file's version does not take its count.
     WrongLength,
     /// 15: a record has an operation, kind, size or jump kind that does not exist.
     UnknownCode,
@@ -63,8 +63,17 @@ pub enum Found {
     RecordLength(usize),
     /// 14: the length of a file without a whole header, which has 9 bytes
     HeaderLength(usize),
-    /// 14: a count above 1,000
-    Count(u16),
+    /// 14: a count that the file's version does not take
+    Count {
+        /// the version of the file
+        version: u16,
+        /// its count
+        count: u16,
+        /// the fewest records of a file of this version
+        low: u16,
+        /// the most
+        high: u16,
+    },
     /// 14: a length that is not the one of the file's count
     FileLength {
         /// the length of the file
@@ -99,13 +108,15 @@ impl Found {
         match (number, record) {
             (FSQ_WRONG_VERSION, _) => field(FSQ_HEADER_VERSION_AT).map(Found::Version),
             (FSQ_WRONG_LENGTH, _) if file.len() < FSQ_HEADER_LENGTH => Some(Found::HeaderLength(file.len())),
-            (FSQ_WRONG_LENGTH, _) => field(FSQ_HEADER_COUNT_AT).map(|count| {
-                if count > FSQ_MOST_RECORDS {
-                    Found::Count(count)
-                } else {
+            (FSQ_WRONG_LENGTH, _) => {
+                let (version, count) = (field(FSQ_HEADER_VERSION_AT)?, field(FSQ_HEADER_COUNT_AT)?);
+                let (low, high) = counts_of(version)?;
+                Some(if (low..=high).contains(&count) {
                     Found::FileLength { length: file.len(), expected: FSQ_HEADER_LENGTH + FSQ_RECORD_LENGTH * usize::from(count) }
-                }
-            }),
+                } else {
+                    Found::Count { version, count, low, high }
+                })
+            }
             (FSQ_UNKNOWN_CODE, Some(record)) => Found::unknown_code(record),
             _ => None,
         }
@@ -128,13 +139,24 @@ impl Found {
     }
 }
 
+/// The fewest and the most records of a version's files (REFERENCE 8); nothing for one that a later library may know.
+fn counts_of(version: u16) -> Option<(u16, u16)> {
+    match version {
+        FSQ_FILE_VERSION => Some((0, FSQ_SHORT_RECORDS)),
+        FSQ_LONG_VERSION => Some((FSQ_SHORT_RECORDS + 1, FSQ_MOST_RECORDS)),
+        _ => None,
+    }
+}
+
 impl fmt::Display for Found {
     fn fmt(&self, f: &mut fmt::Formatter<'_>) -> fmt::Result {
         match *self {
-            Found::Version(version) => write!(f, "the version of the show file is {version}, not {FSQ_FILE_VERSION}"),
+            Found::Version(version) => write!(f, "the version of the show file is {version}, not {FSQ_FILE_VERSION} or {FSQ_LONG_VERSION}"),
             Found::RecordLength(length) => write!(f, "the record has {length} bytes, not {FSQ_RECORD_LENGTH}"),
             Found::HeaderLength(length) => write!(f, "the show file has {length} bytes, and its header alone {FSQ_HEADER_LENGTH}"),
-            Found::Count(count) => write!(f, "the count of the show file is {count}, outside 0..{FSQ_MOST_RECORDS}"),
+            Found::Count { version, count, low, high } => {
+                write!(f, "the count of the show file is {count}, outside {low}..{high} of version {version}")
+            }
             Found::FileLength { length, expected } => write!(f, "the show file has {length} bytes, and by its count {expected}"),
             Found::Code { at, value, high } => {
                 let operand = if at < FSQ_SECOND_AT { FSQ_FIRST_AT } else { FSQ_SECOND_AT };
@@ -266,7 +288,7 @@ impl fmt::Display for Reason {
             Reason::NotAnInstruction => f.write_str("no instruction begins with these bytes"),
             Reason::NotComplete => f.write_str("the instruction is not complete"),
             Reason::NoMark => f.write_str("this is no show file: it does not begin with FSQ"),
-            Reason::WrongVersion => write!(f, "the version of the show file is not {FSQ_FILE_VERSION}"),
+            Reason::WrongVersion => write!(f, "the version of the show file is not {FSQ_FILE_VERSION} or {FSQ_LONG_VERSION}"),
             Reason::WrongLength => f.write_str("the length is not the one that the show file or record has to have"),
             Reason::UnknownCode => f.write_str("an operation, kind, size or jump kind does not exist"),
             Reason::Other(number) => write!(f, "the reason {number}, which this crate does not know"),

@@ -11,7 +11,7 @@ use core::slice::ChunksExact;
 
 #[cfg(feature = "alloc")]
 use {
-    crate::bindings::{FSQ_FILE_VERSION, FSQ_STRING_LENGTH},
+    crate::bindings::{FSQ_FILE_VERSION, FSQ_LONG_VERSION, FSQ_SHORT_RECORDS, FSQ_STRING_LENGTH},
     crate::instruction::Instruction,
     alloc::{borrow::Cow, vec, vec::Vec},
 };
@@ -21,7 +21,8 @@ type Image<'a> = Cow<'a, [u8]>;
 #[cfg(not(feature = "alloc"))]
 type Image<'a> = &'a [u8];
 
-/// The show file of some instructions, from an origin on. More than 1,000 make a file that is refused with 14.
+/// The show file of some instructions, from an origin on: of version 1 up to 1,000 of them, of version 2 above. More than 8,000 make a file that
+/// is refused with 14.
 ///
 /// ```
 /// use fsq::{show_file, Instruction, Operation};
@@ -34,8 +35,9 @@ type Image<'a> = &'a [u8];
 #[cfg(feature = "alloc")]
 pub fn show_file(origin: u16, instructions: &[Instruction]) -> Vec<u8> {
     let count = u16::try_from(instructions.len()).unwrap_or(u16::MAX);
+    let version = if count <= FSQ_SHORT_RECORDS { FSQ_FILE_VERSION } else { FSQ_LONG_VERSION };
     let mut file = b"FSQ".to_vec();
-    file.extend(FSQ_FILE_VERSION.to_le_bytes());
+    file.extend(version.to_le_bytes());
     file.extend(origin.to_le_bytes());
     file.extend(count.to_le_bytes());
     for instruction in instructions {
@@ -72,7 +74,8 @@ pub fn load(file: &[u8]) -> Result<Vec<u8>, Refusal> {
     Ok(image)
 }
 
-/// A show file that is loaded, with its image. It prints as `fsqlist` does: a line of version, origin and count, and a line for each record.
+/// A show file that is loaded, with its image. It prints as `fsqlist` does: a line of version, origin and count, and a line for each record; one of
+/// more than 1,000 records too, which `fsqlist` refuses.
 ///
 /// ```
 /// # #[cfg(feature = "alloc")] {
@@ -108,8 +111,8 @@ impl<'a> Show<'a> {
         Ok(Show { file, image: load(file)?.into() })
     }
 
-    /// Loads a show file into a lent slice; 7,000 bytes take every image. A shorter one is refused with 9 where the image is longer. Nothing is
-    /// allocated, and a refusal changes no byte of the slice.
+    /// Loads a show file into a lent slice; 7 bytes a record take its image, and 56,000 every one. A shorter slice is refused with 9 where the image
+    /// is longer. Nothing is allocated, and a refusal changes no byte of the slice.
     ///
     /// ```
     /// use fsq::{Instruction, Operation, Reason, Show};
@@ -118,7 +121,7 @@ impl<'a> Show<'a> {
     /// let mut file = [0; 9 + 56];
     /// file[..9].copy_from_slice(b"FSQ\x01\x00\x00\x00\x01\x00");
     /// file[9..].copy_from_slice(&Instruction::none(Operation::AAM).to_record());
-    /// let mut image = [0; 7000];
+    /// let mut image = [0; 7];
     /// assert_eq!(Show::load_into(&file, &mut image)?.image(), [0xD4, 0x0A]);
     /// assert_eq!(Show::load_into(&file, &mut [0]).unwrap_err().reason, Reason::SliceTooShort);
     /// # Ok::<(), fsq::Refusal>(())
@@ -134,7 +137,7 @@ impl<'a> Show<'a> {
         u16::from_le_bytes([self.file[at], self.file[at + 1]])
     }
 
-    /// Its version: 1.
+    /// Its version: 1, or 2 of more than 1,000 records.
     pub fn version(&self) -> u16 {
         self.field(FSQ_HEADER_VERSION_AT)
     }
@@ -144,7 +147,7 @@ impl<'a> Show<'a> {
         self.field(FSQ_HEADER_ORIGIN_AT)
     }
 
-    /// The number of its records, 0 to 1,000.
+    /// The number of its records, 0 to 8,000.
     pub fn len(&self) -> usize {
         self.field(FSQ_HEADER_COUNT_AT).into()
     }

@@ -1,4 +1,4 @@
-//! Document 01's bench sheet and document 02's No. 1 through the crate: bytes, lists, readings and refusals are those pages', or the SDM's
+//! Document 01's bench sheet and document 02's Nos. 1 and 5 through the crate: bytes, lists, readings and refusals are those pages', or the SDM's
 //! where a line says so.
 
 use fsq::{
@@ -191,11 +191,15 @@ fn refusals_of_bytes_and_files() {
     };
     assert_eq!(number(&file), Ok(vec![0x90, 0xF4]));
     assert_eq!(number(b""), Err((12, None, None)));
-    assert_eq!(number(&with(3, 2)), Err((13, None, None)));
+    assert_eq!(number(&with(3, 3)), Err((13, None, None)));
     assert_eq!(number(&with(7, 1)), Err((14, None, None)));
     assert_eq!(number(&with(9 + 56, 99)), Err((15, Some(1), None)));
-    assert_eq!(number(&show_file(0, &vec![Instruction::none(NOP); 1001])), Err((14, None, None)));
-    assert_eq!(number(&show_file(0, &vec![Instruction::none(NOP); 1000])), Ok(vec![0x90; 1000]));
+    // Document 02, No. 5: two records are on the wrong side of version 2.
+    assert_eq!(number(&with(3, 2)), Err((14, None, None)));
+    for count in [1000, 1001, 8000] {
+        assert_eq!(number(&show_file(0, &vec![Instruction::none(NOP); count])), Ok(vec![0x90; count]));
+    }
+    assert_eq!(number(&show_file(0, &vec![Instruction::none(NOP); 8001])), Err((14, None, None)));
     assert_eq!(encode_record(&file[9..64], 0).unwrap_err().reason, Reason::WrongLength);
     assert_eq!(encode_record(&with(9, 99)[9..65], 0).unwrap_err().reason, Reason::UnknownCode);
     assert_eq!(read(&[], 0).unwrap_err().reason, Reason::NotComplete);

@@ -1,6 +1,7 @@
-//! Loaded show files: records with offset and bytes, the text of REFERENCE 9, and what is said of a refused file.
+//! Loaded show files: records with offset and bytes, the text of REFERENCE 9, the versions with their counts (document 02, No. 5), and what is said of
+//! a refused file.
 
-use fsq::{encode_record, load, show_file, Found, Instruction, Operation::*, Reason, Register::*, Show};
+use fsq::{encode_record, load, show_file, Base, Found, Instruction, Operand, Operation::*, Reason, Register::*, Segment, Show};
 
 /// Document 01, 'Show file': MOV AX,4660; AAM; LOOP 256 at origin 256.
 fn example() -> Vec<u8> {
@@ -46,28 +47,138 @@ fn offsets_wrap() {
     assert!(Show::load(&show_file(7, &[])).unwrap().is_empty());
 }
 
-/// Every record of the longest file has its own bytes: those that it gets alone at its offset.
+/// Every record of the longest files of both versions has its own bytes: those that it gets alone at its offset.
 #[test]
-fn a_thousand_records() {
-    let instructions: Vec<Instruction> = (0..1000u16)
-        .map(|n| match n % 4 {
-            0 => Instruction::two(ADD, AX, n),
-            1 => Instruction::none(NOP),
-            2 => Instruction::one(JMP, n),
-            _ => Instruction::one(PUSH, BX),
-        })
-        .collect();
-    let file = show_file(65000, &instructions);
-    let show = Show::load(&file).unwrap();
-    let mut image = Vec::new();
-    for (record, instruction) in show.records().zip(&instructions) {
-        assert_eq!(record.record, instruction.to_record());
-        assert_eq!(encode_record(record.record, record.offset).unwrap(), record.bytes);
-        assert_eq!(record.offset, 65000u16.wrapping_add(image.len() as u16));
-        image.extend_from_slice(record.bytes);
+fn a_thousand_records_and_more() {
+    for (version, count) in [(1, 1000), (2, 1001), (2, 8000)] {
+        let instructions: Vec<Instruction> = (0..count)
+            .map(|n: u16| match n % 4 {
+                0 => Instruction::two(ADD, AX, n),
+                1 => Instruction::none(NOP),
+                2 => Instruction::one(JMP, n),
+                _ => Instruction::one(PUSH, BX),
+            })
+            .collect();
+        let file = show_file(65000, &instructions);
+        let show = Show::load(&file).unwrap();
+        let mut image = Vec::new();
+        for (record, instruction) in show.records().zip(&instructions) {
+            assert_eq!(record.record, instruction.to_record());
+            assert_eq!(encode_record(record.record, record.offset).unwrap(), record.bytes);
+            assert_eq!(record.offset, 65000u16.wrapping_add(image.len() as u16));
+            image.extend_from_slice(record.bytes);
+        }
+        assert_eq!((show.version(), show.len(), show.image()), (version, count.into(), &image[..]));
+        assert_eq!(load(&file).unwrap(), image);
+        // REFERENCE 9: the first line, then one for each record.
+        let text = show.to_string();
+        assert_eq!((text.lines().next(), text.lines().count()), (Some(&format!("FSQ {version} FDE8 {count}")[..]), 1 + usize::from(count)));
     }
-    assert_eq!((show.len(), show.image()), (1000, &image[..]));
-    assert_eq!(load(&file).unwrap(), image);
+}
+
+/// REFERENCE 8: a header of this version, origin 0 and this count, and so many NOPs.
+fn nops(version: u16, count: u16, records: usize) -> Vec<u8> {
+    let mut file = b"FSQ".to_vec();
+    [version, 0, count].iter().for_each(|field| file.extend(field.to_le_bytes()));
+    file.extend(Instruction::none(NOP).to_record().repeat(records));
+    file
+}
+
+/// Document 02, No. 5: up to 1,000 version 1, above it version 2, to 8,000; a count on the wrong side is 14, another version 13.
+#[test]
+fn the_counts_of_a_version() {
+    for (version, count) in [(1, 0), (1, 1), (1, 1000), (2, 1001), (2, 3200), (2, 8000)] {
+        let file = nops(version, count, count.into());
+        let show = Show::load(&file).unwrap();
+        // The SDM's NOP is 90.
+        assert_eq!((show.version(), show.len(), show.image()), (version, count.into(), &vec![0x90; count.into()][..]));
+    }
+    for (version, low, high, counts) in [(1, 0, 1000, [1001, 3200, 8000, 8001, 65535]), (2, 1001, 8000, [0, 1, 1000, 8001, 65535])] {
+        for count in counts {
+            // In a file of this count's length, and before the length is asked.
+            for records in [count.into(), 2] {
+                let refusal = load(&nops(version, count, records)).unwrap_err();
+                assert_eq!((refusal.number(), refusal.record), (14, None));
+                assert_eq!(refusal.found, Some(Found::Count { version, count, low, high }));
+                let text = format!("refusal 14: the count of the show file is {count}, outside {low}..{high} of version {version}");
+                assert_eq!(refusal.to_string(), text);
+            }
+        }
+    }
+    for (version, count) in [(0, 0), (3, 0), (3, 1000), (3, 1001), (3, 8000), (3, 8001), (256, 1), (257, 1001), (65535, 2)] {
+        let refusal = load(&nops(version, count, count.into())).unwrap_err();
+        assert_eq!((refusal.number(), refusal.found), (13, Some(Found::Version(version))));
+        assert_eq!(refusal.to_string(), format!("refusal 13: the version of the show file is {version}, not 1 or 2"));
+    }
+}
+
+/// REFERENCE 8: the length is exactly 9 + 56 for each record.
+#[test]
+fn the_length_of_a_long_file() {
+    for (count, expected) in [(1001, 56065), (8000, 448009)] {
+        let mut file = nops(2, count, count.into());
+        assert_eq!(file.len(), expected);
+        file.push(0);
+        for length in [expected - 56, expected - 1, expected + 1] {
+            let refusal = load(&file[..length]).unwrap_err();
+            assert_eq!((refusal.number(), refusal.found), (14, Some(Found::FileLength { length, expected })));
+        }
+        assert_eq!(load(&file[..expected]).unwrap(), vec![0x90; count.into()]);
+    }
+}
+
+/// Document 02, No. 5: the version is the count's.
+#[test]
+fn the_version_that_is_written() {
+    let written = |count: usize| show_file(4660, &vec![Instruction::none(NOP); count]);
+    for (count, header) in [(0, "01 00 34 12 00 00"), (1000, "01 00 34 12 E8 03"), (1001, "02 00 34 12 E9 03"), (8000, "02 00 34 12 40 1F")]
+    {
+        let bytes: Vec<String> = written(count)[3..9].iter().map(|byte| format!("{byte:02X}")).collect();
+        assert_eq!(bytes.join(" "), header);
+        assert_eq!(load(&written(count)).unwrap(), vec![0x90; count]);
+    }
+    // A count above 65,535 is written as 65,535.
+    for (instructions, count) in [(8001, 8001), (65535, 65535), (65536 + 1001, 65535)] {
+        let found = load(&written(instructions)).unwrap_err().found;
+        assert_eq!(found, Some(Found::Count { version: 2, count, low: 1001, high: 8000 }));
+    }
+}
+
+/// The longest image: 8,000 records of seven bytes. By the SDM MOV word ES:[BX+4660],22136 is 26 C7 87 34 12 78 56.
+#[test]
+fn the_longest_image() {
+    let mov = Instruction::two(MOV, Operand::memory(Base::BX, 4660).word().in_segment(Segment::ES), 22136);
+    let file = show_file(0, &vec![mov.at(3..9); 8000]);
+    let expected = [0x26, 0xC7, 0x87, 0x34, 0x12, 0x78, 0x56].repeat(8000);
+    assert_eq!(load(&file).unwrap(), expected);
+    let mut image = vec![0xEE; 56001];
+    assert_eq!(Show::load_into(&file, &mut image[..56000]).unwrap().image(), expected);
+    assert_eq!(image[56000], 0xEE);
+    // REFERENCE 8: 9 names the first record whose last byte lies behind the end, and no byte is changed.
+    for (room, record) in [(55999, 7999), (55993, 7999), (55992, 7998), (7006, 1000), (0, 0)] {
+        let mut short = vec![0xEE; room];
+        let refusal = Show::load_into(&file, &mut short).unwrap_err();
+        assert_eq!((refusal.reason, refusal.record, refusal.span), (Reason::SliceTooShort, Some(record), Some(3..9)));
+        assert_eq!(short, vec![0xEE; room]);
+    }
+}
+
+/// REFERENCE 8: the first record that is refused is named, with its values, also beyond 1,000; an unknown code before it.
+#[test]
+fn refused_beyond_a_thousand() {
+    // Document 01's bench sheet: MOV byte [BX],300 is 5.
+    let mov = Instruction::two(MOV, Operand::memory(Base::BX, 0).byte(), 300);
+    for record in [999, 1000, 3199, 7998] {
+        let mut instructions = vec![Instruction::none(NOP); 8000];
+        instructions[record] = mov.clone();
+        instructions[7999] = Instruction::none(ESC);
+        let mut file = show_file(0, &instructions);
+        let text = format!("refusal 5 of record {record} (question 6): value 300 is outside -128..255");
+        assert_eq!(load(&file).unwrap_err().to_string(), text);
+        file[9 + 56 * 7999] = 99;
+        let text = "refusal 15 of record 7999: operation 99, at byte 0 of the record, is outside 0..98";
+        assert_eq!(load(&file).unwrap_err().to_string(), text);
+    }
 }
 
 /// REFERENCE 8 and 11: which length is wrong, the version, the code.
@@ -87,9 +198,9 @@ fn what_a_refused_file_has() {
     assert_eq!(said(b"FS"), (None, "refusal 12: this is no show file: it does not begin with FSQ".into()));
     let header = "refusal 14: the show file has 8 bytes, and its header alone 9";
     assert_eq!(said(&file[..8]), (Some(Found::HeaderLength(8)), header.into()));
-    assert_eq!(said(&with(3, 2)), (Some(Found::Version(2)), "refusal 13: the version of the show file is 2, not 1".into()));
-    let count = "refusal 14: the count of the show file is 1001, outside 0..1000";
-    assert_eq!(said(&show_file(0, &vec![Instruction::none(NOP); 1001])), (Some(Found::Count(1001)), count.into()));
+    assert_eq!(said(&with(3, 3)), (Some(Found::Version(3)), "refusal 13: the version of the show file is 3, not 1 or 2".into()));
+    let count = "refusal 14: the count of the show file is 3, outside 1001..8000 of version 2";
+    assert_eq!(said(&with(3, 2)), (Some(Found::Count { version: 2, count: 3, low: 1001, high: 8000 }), count.into()));
     let length = "refusal 14: the show file has 176 bytes, and by its count 177";
     assert_eq!(said(&file[..176]), (Some(Found::FileLength { length: 176, expected: 177 }), length.into()));
     let code = "refusal 15 of record 1: jump kind 4, at byte 37 of the record, is outside 0..3";

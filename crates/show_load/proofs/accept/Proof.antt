@@ -1,4 +1,4 @@
-use Rattle.show_load.proofs.Laws.{opened-exact}
+use Rattle.show_file.proofs.Opening.{opened-exact}
 use Rattle.show_load.specs.Loading.{showAccepted}
 use borrow.Author.Tests.{le-ltb, lt-ltb}
 use denote.Ref.{now}
@@ -9,7 +9,7 @@ use Rattle.show_load.proofs.accept.Tie as tie
 
 first-unknown-requires : tie.Need-first-unknown-requires
 first-unknown-requires c κs =
-    let e = opened-exact (now (c .before .before .before .before .before .before .args .file)) _ (sym (c .before .before .before .before .«open» .ensures) ∙ c .before .before .show2 .given .1) in
+    let e = opened-exact _ (now (c .before .before .before .before .before .before .args .file)) _ (sym (c .before .before .before .before .«open» .ensures) ∙ c .before .before .show2 .given .1) in
     (e .its-length, e .its-count)
 
 returns : tie.Need-returns
@@ -21,7 +21,7 @@ returns c =
 
 measure-requires : tie.Need-measure-requires
 measure-requires c κs =
-    let e = opened-exact (now (c .before .before .before .before .before .before .before .before .args .file)) _ (sym (c .before .before .before .before .before .before .«open» .ensures) ∙ c .before .before .before .before .show2 .given .1) in
+    let e = opened-exact _ (now (c .before .before .before .before .before .before .before .before .args .file)) _ (sym (c .before .before .before .before .before .before .«open» .ensures) ∙ c .before .before .before .before .show2 .given .1) in
     (e .its-length, e .its-count)
 
 returns-3 : tie.Need-returns-3

@@ -9,19 +9,19 @@ use Rattle.show_load.proofs.load.Tie as tie
 write-all-requires : tie.Need-write-all-requires
 write-all-requires c κs =
     let a = c .before .before .before .before .before .before .before .before .before .args in
-    let x = accepted-image (now (a .file)) _ _ (sym (c .before .before .before .before .before .before .accept .ensures) ∙ c .before .before .before .before .show2 .given .1) in
+    let x = accepted-image _ (now (a .file)) _ _ (sym (c .before .before .before .before .before .before .accept .ensures) ∙ c .before .before .before .before .show2 .given .1) in
     (x .exact .its-length, x .exact .its-count, x .all-in, rw (← (x .size)) (c .before .if1 .taken))
 
 first-over-requires : tie.Need-first-over-requires
 first-over-requires c κs =
     let a = c .before .before .before .before .before .before .before .before .args in
-    let x = accepted-image (now (a .file)) _ _ (sym (c .before .before .before .before .before .accept .ensures) ∙ c .before .before .before .show2 .given .1) in
+    let x = accepted-image _ (now (a .file)) _ _ (sym (c .before .before .before .before .before .accept .ensures) ∙ c .before .before .before .show2 .given .1) in
     (x .exact .its-length, x .exact .its-count, x .all-in)
 
 too-short-requires : tie.Need-too-short-requires
 too-short-requires c κs =
     let a = c .before .before .before .before .before .before .before .before .before .args in
-    let x = accepted-image (now (a .file)) _ _ (sym (c .before .before .before .before .before .before .accept .ensures) ∙ c .before .before .before .before .show2 .given .1) in
+    let x = accepted-image _ (now (a .file)) _ _ (sym (c .before .before .before .before .before .before .accept .ensures) ∙ c .before .before .before .before .show2 .given .1) in
     (x .exact .its-length, x .exact .its-count, rw (c .first-over .ensures) (over-below (now (a .file)) _ _ _ (rw (← (x .size)) (c .before .if1 .left))))
 
 returns-2 : tie.Need-returns-2

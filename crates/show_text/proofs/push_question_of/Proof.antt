@@ -10,13 +10,13 @@ use Rattle.show_text.proofs.push_question_of.Tie as tie
 sub-n : tie.Need-sub-n
 sub-n c =
     let b = c .before .before .before .before .before in
-    let r = refused-at (now (b .args .file)) _ _ (b .pre ∙ ap L.Refused (c .before .error .given .1)) in
+    let r = refused-at _ (now (b .args .file)) _ _ (b .pre ∙ ap L.Refused (c .before .error .given .1)) in
     omega (arith, r .exact .its-length)
 
 push-question-at-requires : tie.Need-push-question-at-requires
 push-question-at-requires c κs =
     let b = c .before .before .before .before .before in
-    let r = refused-at (now (b .args .file)) _ _ (b .pre ∙ ap L.Refused (c .before .error .given .1)) in
+    let r = refused-at _ (now (b .args .file)) _ _ (b .pre ∙ ap L.Refused (c .before .error .given .1)) in
     let n = r .exact .its-length in
     let m = r .exact .its-count in
     let k = r .stops .below in

@@ -30,8 +30,8 @@ write-line-requires c κs =
 write-show-requires : tie.Need-write-show-requires
 write-show-requires c κs =
     let a = c .before .before .before .before .before .before .before .before .before .args in
-    let x = accepted-image (now (a .file)) _ _ (sym (c .before .before .before .before .accept .ensures) ∙ c .before .before .show2 .given .1) in
-    (x .exact .its-length, x .exact .its-count, x .all-in, rw (c .before .before .before .before .before .before .most-of .ensures) at (c .before .before .before .before .before .if1 .left))
+    let x = accepted-image _ (now (a .file)) _ _ (sym (c .before .before .before .before .accept .ensures) ∙ c .before .before .show2 .given .1) in
+    (x .exact .its-length, x .exact .its-limit, x .all-in, rw (c .before .before .before .before .before .before .most-of .ensures) at (c .before .before .before .before .before .if1 .left))
 
 returns-2 : tie.Need-returns-2
 unfolding listed sliceAfter

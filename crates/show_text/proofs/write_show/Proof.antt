@@ -22,7 +22,7 @@ write-lines-requires c κs =
     let b = c .before .before .before .before .before .before .before .before .before in
     let l = c .before .before .before .before .before .first-line in
     let w = c .before .before .before .write-line in
-    (b .pre .0, b .pre .1, b .pre .2, first-in (b .args .forms) (now (b .args .file)) (b .args .header) (b .pre .1) (now (b .args .out)) (b .pre .3) (l .result) (l .ensures) _ (w .result) (w .ensures .0) (w .ensures .1) .1)
+    (b .pre .0, omega (arith, b .pre .1), b .pre .2, first-in (b .args .forms) (now (b .args .file)) (b .args .header) (b .pre .1) (now (b .args .out)) (b .pre .3) (l .result) (l .ensures) _ (w .result) (w .ensures .0) (w .ensures .1) .1)
 
 add-result : tie.Need-add-result
 add-result c =
