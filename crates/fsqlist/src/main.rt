@@ -11,7 +11,7 @@ fn print_text(file: &[u8], out: &mut [u8]) -> bool {
     }
 }
 
-// The buffer is longer than any show file, so that of an input that does not fit the length is still wrong.
+// The buffer is longer than any show that is printed, so that of an input that does not fit the count or the length is still wrong.
 fn main() {
     if !input::called_alone(os::arg_count(), b"usage: fsqlist < SHOW.fsq\n") {
         return;
