@@ -32,7 +32,7 @@ def enums(header):
         values, following = {}, 0
         for name, value in re.findall(r'FSQ_(\w+)(?: = (\w+))?', body):
             if value:
-                following = int(value) if value.isdigit() else values[value.removeprefix('FSQ_')]
+                following = int(value, 0) if value[0].isdigit() else values[value.removeprefix('FSQ_')]
             values[name], following = following, following + 1
         # Every comma is between two of them: nothing of the body is passed over.
         assert len(values) == len(body.split(',')), enum

@@ -12,7 +12,7 @@ import bindings
 import operations as scripts
 
 ROOT = pathlib.Path(__file__).resolve().parent.parent
-OPERATIONS, REFUSALS, VERSIONS = 99, 15, 2
+OPERATIONS, REFUSALS, VERSIONS = 99, 16, 3
 failures = []
 
 
@@ -79,7 +79,7 @@ def source():
         operations='mrc_compiler/src/operations', data='mrc_compiler/src/encoder/mod', ast='mrc_compiler/src/ast', record='show_record/src/lib', file='show_file/src/lib',
         report='foreign_report/src/lib', read='foreign/src/read', encode='foreign/src/encode', load='foreign/src/load', operands='x86/src/operands', reader='reader/src/lib',
         slots='read_slots/src/lib', run='encode_run/src/lib', lister='lister/src/lib', entries='list_entries/src/lib', form='text_form/src/lib', ground='encode_form/src/lib',
-        text='show_text/src/lib').items()}
+        text='show_text/src/lib', x86='x86/src/lib').items()}
     s = {}
 
     def twice(what, text, given, expected):
@@ -105,32 +105,35 @@ def source():
 
     # Refusals: the encoder's, the loader's, the reader's; then where they cross.
     s['answer'] = {'DONE': 0}
-    s['answer'] |= code['file'].numbers(r'EncodeError::(\w+)\([_, ]*\) => (\d+),', 9, snake)
+    s['answer'] |= code['file'].numbers(r'EncodeError::(\w+)\([_, ]*\) => (\d+),', 10, snake)
     s['answer'] |= {'NOT_AN_INSTRUCTION': code['reader'].number(r'Decoded::Nothing => Refusal::Is\((\d+)\)'), 'NOT_COMPLETE': code['reader'].number(r'Decoded::More => Refusal::Is\((\d+)\)')}
     s['answer'] |= code['file'].numbers(r'LoadError::(\w+)(?:\(_\))? => (\d+),', 4, snake)
     if len(s['answer']) != REFUSALS + 1:
         wrong(f'the source has {len(s["answer"]) - 1} and not {REFUSALS} refusals')
-    crossing = code['report'].numbers(r'EncodeError::(\w+)\(span\) => response_span\((\d+), span\)', 7, snake)
+    crossing = code['report'].numbers(r'EncodeError::(\w+)\(span\) => response_span\((\d+), span\)', 8, snake)
     crossing |= code['report'].numbers(r'EncodeError::(\w+)\(span, .*\) => Response \{\s*number: (\d+),', 2, snake)
     crossing |= code['load'].numbers(r'LoadError::(\w+)(?:\(k\))? => (?:of_record\()?response_alone\((\d+)\)', 4, snake)
     crossing |= {'NOT_AN_INSTRUCTION': code['read'].number(r'Decoded::Nothing => (\d+),'), 'NOT_COMPLETE': code['read'].number(r'Decoded::More => (\d+),')}
     twice('refusal', Text('crates/foreign', ''), {'DONE': 0} | crossing, s['answer'])
-    record = {'WRONG_LENGTH': code['encode'].number(r'RECORD_LENGTH \{\s*return (\d+);'), 'UNKNOWN_CODE': code['encode'].number(r'codes_known\(rec\) \{ 0 \} else \{ (\d+) \}')}
+    record = dict(zip(('UNKNOWN_CODE', 'WRONG_LENGTH'), map(int, code['encode'].part(r'pub fn record_number\(').one(r'\}\s*return (\d+);\s*\}\s*(\d+)$') or ())))
     twice('refusal', code['encode'], record, {name: s['answer'].get(name) for name in record})
 
     # The question of a refusal; 4's goes by the record.
-    s['question'] = code['ground'].part(r'pub fn question_of\(').numbers(r'EncodeError::(\w+)\([_, ]*\) => (\d),', 8, snake)
+    s['question'] = code['ground'].part(r'pub fn question_of\(').numbers(r'EncodeError::(\w+)\([_, ]*\) => (\d),', 9, snake)
 
     # A record and its operands.
     values = {}
-    for name, value in code['record'].all(r'const (\w+): usize = (.*);', 17):
+    for name, value in code['record'].all(r'const (\w+): usize = (.*);', 19):
         values[name] = sum(int(part) if part.isdigit() else values[part] for part in value.split(' + '))
     names = dict(KIND='KIND', SIZE='SIZE', PREFIX='PREFIX', DISPLACEMENT_SIZE='DISPLACEMENT_SIZE', JUMP='JUMP_KIND', MODE='MODE', RM='RM', IMMEDIATE='IMM', DISPLACEMENT='DISPLACEMENT',
         OPERAND_SPAN_START='OPERAND_SPAN')
     after = code['record'].number(r'end: u32_at\(bytes, at \+ (\d+)\)')
     s['operand'] = {f'{name}_AT': values.get(rattle) for name, rattle in names.items()} | {'OPERAND_SPAN_END_AT': values['OPERAND_SPAN'] + after}
-    s['record'] = {f'{name}_AT': values.get(name) for name in ('OPERATION', 'COUNT', 'FIRST', 'SECOND')}
+    s['record'] = {f'{name}_AT': values.get(name) for name in ('OPERATION', 'COUNT', 'REPEAT', 'FIRST', 'SECOND')}
     s['record'] |= {'SPAN_START_AT': values['SPAN'], 'SPAN_END_AT': values['SPAN'] + after}
+    # The header says that what stands behind the repeat stands a byte further, and is first of it the span.
+    twice('record', code['record'], {'REPEAT': values['REPEAT'], 'LONG_RECORD_LENGTH': values['LONG_RECORD_LENGTH']}, {'REPEAT': values['SPAN'], 'LONG_RECORD_LENGTH': values['RECORD_LENGTH'] + 1})
+    s['repeat'] = dict(zip(('REPEAT_REPNE', 'REPEAT_REP'), (int(v, 0) for v in code['x86'].part(r'pub fn is_repeat\(').all(r'b == (0x\w\w)', 2)))) | {'REPEAT_NONE': 0}
 
     # The header of a file, its limits, and all lengths.
     text = code['file']
@@ -139,17 +142,19 @@ def source():
     entries, string = code['lister'].number(r'let mut keys: \[u64; (\d+)\]'), code['run'].number(r'pub bytes: \[u8; (\d+)\]')
     entry, most = code['entries'].number(r'let at = (\d+) \* n;'), text.number(r'const MOST_RECORDS: u16 = (\d+);')
     s['version'] = {int(n): (int(fewest), int(highest)) for n, fewest, highest in text.part(r'fn counts_of\(').all(r'(\d+) => Counts::Between\((\d+), (\d+)\),', VERSIONS)}
-    short, long = sorted(s['version'])
-    s['limit'] = {'MOST_RECORDS': most, 'SHORT_RECORDS': s['version'][short][1], 'MOST_ENTRIES': entries, 'FILE_VERSION': short, 'LONG_VERSION': long}
-    # A count is of one version: so the header says both by SHORT_RECORDS, which is the text programs' limit too.
-    twice('version', text, s['version'], {short: (0, s['limit']['SHORT_RECORDS']), long: (s['limit']['SHORT_RECORDS'] + 1, most)})
+    repeat = text.part(r'fn record_length\(').number(r'if version == (\d+) \{\s*show_record::LONG_RECORD_LENGTH')
+    short, long = sorted(s['version'].keys() - {repeat})
+    s['limit'] = {'MOST_RECORDS': most, 'SHORT_RECORDS': s['version'][short][1], 'MOST_ENTRIES': entries, 'FILE_VERSION': short, 'LONG_VERSION': long, 'REPEAT_VERSION': repeat}
+    # Without repeats a count is of one version: so the header says both by SHORT_RECORDS, which is the text programs' limit too.
+    twice('version', text, s['version'], {short: (0, s['limit']['SHORT_RECORDS']), long: (s['limit']['SHORT_RECORDS'] + 1, most), repeat: (0, most)})
+    s['record bytes'] = {version: values['LONG_RECORD_LENGTH' if version == repeat else 'RECORD_LENGTH'] for version in s['version']}
     s['text'] = code['text'].numbers(r'const (TEXT_RECORDS|MOST_TEXT|MOST_FORMS): \w+ = (\d+);', 3)
     twice('text', code['text'], {'TEXT_RECORDS': s['text'].get('TEXT_RECORDS')}, {'TEXT_RECORDS': s['limit']['SHORT_RECORDS']})
     header = text.number(r'const HEADER_LENGTH: usize = (\d+);')
-    s['length'] = {'RECORD_LENGTH': values['RECORD_LENGTH'], 'OPERAND_LENGTH': values['OPERAND_LENGTH'], 'HEADER_LENGTH': header,
+    s['length'] = {'RECORD_LENGTH': values['RECORD_LENGTH'], 'REPEAT_RECORD_LENGTH': values['LONG_RECORD_LENGTH'], 'OPERAND_LENGTH': values['OPERAND_LENGTH'], 'HEADER_LENGTH': header,
         'REPORT_LENGTH': code['report'].number(r'if report\.len\(\) < (\d+) '), 'READING_LENGTH': code['read'].number(r'if out\.len\(\) < (\d+) '),
         'LIST_LENGTH': code['lister'].number(r'if out\.len\(\) < (\d+) '), 'ENTRY_LENGTH': entry, 'STRING_LENGTH': string, 'IMAGE_LENGTH': string * most,
-        'FILE_LENGTH': header + values['RECORD_LENGTH'] * most, 'FORM_LENGTH': code['form'].number(r'pub const MOST_LINE: usize = (\d+);')}
+        'FILE_LENGTH': header + values['LONG_RECORD_LENGTH'] * most, 'FORM_LENGTH': code['form'].number(r'pub const MOST_LINE: usize = (\d+);')}
     twice('length', code['lister'], {'LIST_LENGTH': s['length']['LIST_LENGTH']}, {'LIST_LENGTH': entry * entries})
 
     # The report: three numbers of four bytes at a place.
@@ -174,6 +179,8 @@ def source():
         wrong(f'{text.path}: the head of a reading is {head}')
     s['reading'] = {f'READ_{name}_AT': words['head'] + k for k, name in enumerate(('LENGTH', 'OPERATION', 'WIDTH', 'OPCODE'))}
     s['reading'] |= {f'READ_{name}_AT': words[name] for name in ('EXTENSION', 'FIRST', 'SECOND')}
+    beside = text.number(r'number as u32 \+ (256) \* \(repeat as u32\)')
+    s['reading']['READ_REPEAT_AT'] = words['EXTENSION'] + (beside or 1).bit_length() // 8
     fields = text.one(r'operand_type\.(\w+) as u32 \+ 256 \* \(operand_type\.(\w+) as u32 \+ 256 \* \((\w+) as u32\)\)') or ()
     s['read_operand'] = {f'READ_{name.upper()}_AT': k for k, name in enumerate(fields)}
     far = text.number(r'wrapping_add_u16\(displacement, value\) as u32 \+ (65536) \* \(far as u32\)')
@@ -201,13 +208,14 @@ def header(s):
     place = 'library/include/fsq.h'
     enums = bindings.enums((ROOT / place).read_text())
     count = 0
-    for enum in sorted(enums.keys() | s.keys() - {'mark', 'define', 'prefix', 'question', 'version', 'text'}):
+    for enum in sorted(enums.keys() | s.keys() - {'mark', 'define', 'prefix', 'question', 'version', 'record bytes', 'text'}):
         count += compare(enum, place, enums.get(enum, {}), s.get(enum, {}), 'FSQ_')
     text = Text(place)
     compare('define', place, text.numbers(r'#define FSQ_(NO_RECORD) (\d+)u', 1), s['define'], 'FSQ_')
     for function, enum in (('refusal', 'answer'), ('operation', 'operation')):
         names = text.part(rf'fsq_{function}_name\(.*?\) \{{', '};').order(r'"(\w+)"', len(s[enum]) + 1)
-        compare(f'{function} name', place, names, s[enum] | {'UNKNOWN': len(s[enum])})
+        # in the order of the numbers, and behind them what has none
+        compare(f'{function} name', place, names, {name: k for k, name in enumerate([*sorted(s[enum], key=s[enum].get), 'UNKNOWN'])})
         count += len(names)
     count += len(text.part(r'fsq_refusal_sentence\(.*?\) \{', '};').all(r'"(?:[^"\\]|\\.)*"', REFUSALS + 2))
     mark = bytes(int(v, 0) for v in text.all(r'file\[FSQ_HEADER_MARK_AT(?: \+ \d)?\] = (0x\w\w);', 3))
@@ -227,7 +235,7 @@ def crate(s):
             count += 1
             if snake(reason) != number:
                 wrong(f'refusal {number}: {text.path} has it for {reason}')
-    count += compare('question', text.path, text.part(r'fn question_of\(').numbers(r'FSQ_(\w+) => (\d),', 8), s['question'])
+    count += compare('question', text.path, text.part(r'fn question_of\(').numbers(r'FSQ_(\w+) => (\d),', 9), s['question'])
     text = Text(place + 'operand.rs')
     for enum, type, count_of, name in (('register', 'Register', 16, str), ('segment', 'Segment', 4, str), ('base', 'Base', 8, lambda n: f'BASE_{n}')):
         given = text.part(rf'pub enum {type} \{{').order(r'(\w+),', count_of, name)
@@ -239,6 +247,10 @@ def crate(s):
     names = text.part(r"fn text\(self\) -> &'static str \{", r'\}').order(r'"(\S+)"', 8, lambda n: 'BASE_' + n.replace('+', '_'))
     count += compare('base', f'{text.path} (text)', names, {n: v for n, v in s['base'].items() if n != 'BASE_NONE'})
     compare('prefix', text.path, {'ES': text.number(r'(0x\w\w) \+ 8 \* self as u8')}, {'ES': s['prefix']})
+    for variant, number in Text(place + 'instruction.rs').part(r'pub enum Repeat \{').all(r'(\w+) = FSQ_(\w+),', 2):
+        count += 1
+        if f'REPEAT_{variant.upper()}' != number:
+            wrong(f'repeat {number}: {place}instruction.rs has it for {variant}')
     for type, variants in (('Size', 'Byte Word'), ('Jump', 'Far Near Short'), ('Kind', 'Immediate Register Segment Memory')):
         for variant, number in text.part(rf'enum {type} \{{').all(r'(\w+) = FSQ_(\w+),', len(variants.split())):
             count += 1
@@ -267,13 +279,16 @@ def python(s):
         return found
 
     operand = dict(zip(sorted(s['operand'], key=s['operand'].get), places(scripts.OPERAND)))
-    record = dict(zip(('OPERATION_AT', 'COUNT_AT', 'SPAN_START_AT', 'SPAN_END_AT'), places(scripts.RECORD))) | {'FIRST_AT': scripts.FIRST, 'SECOND_AT': scripts.SECOND}
+    record = dict(zip(('OPERATION_AT', 'COUNT_AT', 'SPAN_START_AT', 'SPAN_END_AT'), places(scripts.RECORD))) | {'FIRST_AT': scripts.FIRST, 'SECOND_AT': scripts.SECOND, 'REPEAT_AT': scripts.REPEAT}
     head = {f'HEADER_{name}_AT': len(scripts.MARK) + at for name, at in zip(('VERSION', 'ORIGIN', 'COUNT'), places(scripts.HEADER))} | {'HEADER_MARK_AT': 0}
     for enum, given in (('operand', operand), ('record', record), ('header', head)):
         count += compare(enum, place, given, s[enum])
     lengths = {'HEADER_LENGTH': len(scripts.MARK) + scripts.HEADER.size, 'OPERAND_LENGTH': scripts.OPERAND.size, 'RECORD_LENGTH': scripts.SECOND + scripts.OPERAND.size}
+    lengths['REPEAT_RECORD_LENGTH'] = len(scripts.with_repeat(bytes(lengths['RECORD_LENGTH']), 0))
     count += compare('length', place, lengths, {name: s['length'][name] for name in lengths})
     count += compare('version', place, scripts.VERSIONS, s['version'])
+    count += compare('limit', place, {'REPEAT_VERSION': scripts.REPEAT_VERSION}, {'REPEAT_VERSION': s['limit']['REPEAT_VERSION']})
+    count += compare('repeat', place, {f'REPEAT_{name}': value for name, value in scripts.REPEATS.items()} | {'REPEAT_NONE': 0}, s['repeat'])
     count += compare('text', place, {'TEXT_RECORDS': scripts.TEXT_RECORDS}, {'TEXT_RECORDS': s['text']['TEXT_RECORDS']})
     return count + compare('mark', place, {'bytes': scripts.MARK}, {'bytes': s['mark']})
 
@@ -285,8 +300,9 @@ def reference(s):
     rows = {name: int(number) for number, name in text.all(r'\n\| (\d+) \| ([A-Z_]+) \|', REFUSALS)}
     count = compare('refusal', place, rows | {'DONE': 0}, s['answer'])
     said = lambda number: int(number.replace(',', ''))
-    rows = {int(version): (said(fewest), said(most)) for version, fewest, most in text.all(r'\n\| (\d+) \| ([\d,]+) to ([\d,]+) \|', VERSIONS)}
-    count += compare('version', place, rows, s['version'])
+    rows = text.all(r'\n\| (\d+) \| ([\d,]+) to ([\d,]+) \| (\d+) \|', VERSIONS)
+    count += compare('version', place, {int(version): (said(fewest), said(most)) for version, fewest, most, _ in rows}, s['version'])
+    count += compare('record bytes', place, {int(version): int(length) for version, _, _, length in rows}, s['record bytes'])
     texts = text.one(r'(?s)a count of more than ([\d,]+) is refused with 14 here.*slice of at least ([\d,]+) and ([\d,]+) bytes')
     count += compare('text', place, dict(zip(('TEXT_RECORDS', 'MOST_TEXT', 'MOST_FORMS'), map(said, texts or ()))), s['text'])
     for enum, begin, names in (('kind', r'\| kind: ', r'\b(Imm|Reg|Seg|Mem) (\d)'), ('size', 'displacement size: ', r'\b(Unspecified|Byte|Word) (\d)'),

@@ -14,10 +14,13 @@ WORD_REGISTERS = 'AX CX DX BX SP BP SI DI'.split()
 SEGMENTS = 'ES CS SS DS'.split()
 PREFIXES = [0x26, 0x2E, 0x36, 0x3E]
 BASES = 'BX+SI BX+DI BP+SI BP+DI SI DI BP BX'.split()
+REPEATS = {'REPNE': 0xF2, 'REP': 0xF3}
 
 MARK = b'FSQ'
-# The versions of a file, each with the fewest and the most of its records; fsqlist and fsqform print no show of more than TEXT_RECORDS.
-VERSIONS = {1: (0, 1000), 2: (1001, 8000)}
+# The versions of a file, each with the fewest and the most of its records, and the one whose records have a repeat; fsqlist and fsqform print no show of more
+# than TEXT_RECORDS.
+VERSIONS = {1: (0, 1000), 2: (1001, 8000), 3: (0, 8000)}
+REPEAT_VERSION = 3
 TEXT_RECORDS = 1000
 # Behind the mark: version, origin, count.
 HEADER = struct.Struct('<HHH')
@@ -26,8 +29,16 @@ RECORD = struct.Struct('<BBII')
 # Kind, size, prefix, displacement size, jump kind, mode, r/m, immediate, displacement, span.
 OPERAND = struct.Struct('<BBBBBBBiiII')
 FIRST, SECOND = RECORD.size, RECORD.size + OPERAND.size
+# Where a record of version 3 has its repeat, a byte, behind which the other fields follow.
+REPEAT = 2
 
 
 def version_of(count):
-    """The version that a file of so many records has; the last one above all of them, so that it is its count that is refused."""
-    return next((version for version, (_, most) in VERSIONS.items() if count <= most), max(VERSIONS))
+    """The version that a file of so many records without repeats has; the last one above all of them, so that it is its count that is refused."""
+    without = [version for version in VERSIONS if version != REPEAT_VERSION]
+    return next((version for version in without if count <= VERSIONS[version][1]), without[-1])
+
+
+def with_repeat(record, repeat):
+    """A record of version 3, from one without a repeat."""
+    return record[:REPEAT] + bytes([repeat]) + record[REPEAT:]

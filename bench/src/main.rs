@@ -58,6 +58,9 @@ fn work(show: &Show, name: &str, rounds: &str) -> Result<(), String> {
     Ok(())
 }
 
+/// String operations with a repeat, which the Rust does not have.
+const REPEATS: [&str; 4] = ["encode-repeat", "read-repeat", "list-repeat", "load-repeat"];
+
 /// Compares the answers of all sides, then times them. A short run says nothing about time.
 fn measure(show: &Show, rounds: usize, warming: usize, timed: bool) -> Result<(), String> {
     println!("records: {}", groups::counts(show));
@@ -69,6 +72,7 @@ fn measure(show: &Show, rounds: usize, warming: usize, timed: bool) -> Result<()
     let lists = clock(&of(&["list-rattle"]), rounds / 10 + 1, warming / 10)?;
     let forms = clock(&of(&["form-rattle"]), rounds, warming)?;
     let loads = clock(&of(&["load-rattle", "load-rust"]), rounds, warming)?;
+    let repeats = clock(&of(&REPEATS), rounds / 10 + 1, warming / 10)?;
     let grown = [1, 2, 4, 8].into_iter().map(|times| show.times(times)).collect::<Result<Vec<Show>, String>>()?;
     let grow = |names: &[&str]| {
         let turns: Vec<(&Show, &Side)> = grown.iter().flat_map(|longer| of(names).into_iter().map(move |(_, side)| (longer, side))).collect();
@@ -91,6 +95,9 @@ fn measure(show: &Show, rounds: usize, warming: usize, timed: bool) -> Result<()
     println!("list: rattle {}/record", lists[0]);
     println!("form: rattle {}/record", forms[0]);
     both("load", "/record", &loads[0], "rust", &loads[1]);
+    for (name, figure) in REPEATS.iter().zip(&repeats) {
+        println!("{name}: rattle {figure}/record");
+    }
     for (what, growth) in [("encodes", encoded), ("records loaded", loaded)] {
         for (longer, figures) in grown.iter().zip(growth.chunks(2)) {
             let n = longer.records.len();

@@ -11,14 +11,14 @@ fn length(report: &Report) -> usize {
 
 /// The length of the record's bytes, which stand at the front of out; nothing where it is refused.
 #[inline]
-pub fn encode(record: &[u8; FSQ_RECORD_LENGTH], offset: u16, out: &mut [u8], report: &mut Report) -> Option<usize> {
+pub fn encode(record: &[u8], offset: u16, out: &mut [u8], report: &mut Report) -> Option<usize> {
     let number = unsafe { fsq_encode(record.as_ptr(), record.len(), offset, out.as_mut_ptr(), out.len(), report.as_mut_ptr(), report.len()) };
     (number == FSQ_DONE).then(|| length(report))
 }
 
 /// The number of entries of 8 bytes in out.
 #[inline]
-pub fn list(record: &[u8; FSQ_RECORD_LENGTH], offset: u16, out: &mut [u8], report: &mut Report) -> Option<usize> {
+pub fn list(record: &[u8], offset: u16, out: &mut [u8], report: &mut Report) -> Option<usize> {
     let number = unsafe { fsq_list(record.as_ptr(), record.len(), offset, out.as_mut_ptr(), out.len(), report.as_mut_ptr(), report.len()) };
     (number == FSQ_DONE).then(|| length(report))
 }

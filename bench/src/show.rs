@@ -3,7 +3,7 @@
 use super::answers::{self, Run};
 use super::bindings::*;
 use super::groups;
-use super::records::{self, Packed, FAR, IMM};
+use super::records::{self, op::*, Packed, FAR, IMM};
 use super::rust;
 use crate::encoder::InstructionData;
 
@@ -15,6 +15,38 @@ pub struct Show {
     pub instructions: Vec<InstructionData>,
     /// the bytes of each record, by the Rust
     pub strings: Vec<Run>,
+    pub repeated: Repeated,
+}
+
+/// String operations with a repeat, in a file of version 3 (document 02, No. 11), as many as the show has records. The Rust has no repeat: the bytes are the SDM's.
+#[derive(Clone, Default)]
+pub struct Repeated {
+    pub file: Vec<u8>,
+    pub records: Vec<[u8; FSQ_REPEAT_RECORD_LENGTH]>,
+    pub strings: Vec<Run>,
+}
+
+const STRING_OPERATIONS: [(u8, u8); 10] = [
+    (MOVSB, 0xA4), (MOVSW, 0xA5), (CMPSB, 0xA6), (CMPSW, 0xA7), (STOSB, 0xAA), (STOSW, 0xAB), (LODSB, 0xAC), (LODSW, 0xAD), (SCASB, 0xAE), (SCASW, 0xAF),
+];
+
+impl Repeated {
+    fn of(origin: u16, count: usize) -> Repeated {
+        let mut repeated = Repeated::default();
+        repeated.file.extend(b"FSQ");
+        [FSQ_REPEAT_VERSION, origin, count as u16].iter().for_each(|field| repeated.file.extend(field.to_le_bytes()));
+        for n in 0..count {
+            let (operation, opcode) = STRING_OPERATIONS[n % 10];
+            let repeat = [FSQ_REPEAT_REPNE, FSQ_REPEAT_REP][n / 10 % 2];
+            let mut record = [0; FSQ_REPEAT_RECORD_LENGTH];
+            record[FSQ_OPERATION_AT] = operation;
+            record[FSQ_REPEAT_AT] = repeat;
+            repeated.file.extend(record);
+            repeated.records.push(record);
+            repeated.strings.push(answers::run(&[repeat, opcode]));
+        }
+        repeated
+    }
 }
 
 impl Show {
@@ -29,7 +61,7 @@ impl Show {
             return Err(format!("{path} is no show file"));
         }
         let mut offset = head(FSQ_HEADER_ORIGIN_AT);
-        let mut show = Show { records: Vec::new(), offsets: Vec::new(), instructions: Vec::new(), strings: Vec::new(), file };
+        let mut show = Show { records: Vec::new(), offsets: Vec::new(), instructions: Vec::new(), strings: Vec::new(), repeated: Repeated::default(), file };
         for (n, record) in show.file[FSQ_HEADER_LENGTH..].chunks(FSQ_RECORD_LENGTH).enumerate() {
             let record: Packed = record.try_into().unwrap();
             let mut out = [0; 8];
@@ -40,6 +72,7 @@ impl Show {
             offset = offset.wrapping_add(length as u16);
         }
         show.instructions = show.records.iter().filter_map(rust::instruction).collect();
+        show.repeated = Repeated::of(show.origin(), show.records.len());
         show.branches_land()?;
         Ok(show)
     }
@@ -82,7 +115,7 @@ impl Show {
         [version, self.origin(), count].iter().for_each(|field| file.extend(field.to_le_bytes()));
         records.iter().for_each(|record| file.extend(record));
         let instructions = records.iter().filter_map(rust::instruction).collect();
-        let show = Show { file, instructions, records, offsets, strings: self.strings.repeat(n) };
+        let show = Show { file, instructions, records, offsets, strings: self.strings.repeat(n), repeated: Repeated::of(self.origin(), n * self.records.len()) };
         show.branches_land()?;
         Ok(show)
     }

@@ -68,6 +68,10 @@ const SIDES: &[Side] = &[
     Side { name: "form-rattle", writes: Writes::Forms, round: form_rattle, answers: forms },
     Side { name: "load-rattle", writes: Writes::Image, round: load_rattle, answers: image },
     Side { name: "load-rust", writes: Writes::Image, round: load_rust, answers: image },
+    Side { name: "encode-repeat", writes: Writes::Bytes, round: encode_repeat, answers: repeat_bytes },
+    Side { name: "read-repeat", writes: Writes::Lengths, round: read_repeat, answers: repeat_lengths },
+    Side { name: "list-repeat", writes: Writes::Lists, round: list_repeat, answers: repeat_lists },
+    Side { name: "load-repeat", writes: Writes::Image, round: load_repeat, answers: repeat_image },
 ];
 
 pub fn named(name: &str) -> Option<&'static Side> {
@@ -81,9 +85,10 @@ pub fn agree(show: &Show) -> Result<String, String> {
         (side.round)(show, &mut slots);
         (side.answers)(show, &slots).map_err(|why| format!("{}: {why}", side.name))?;
     }
-    let total: usize = show.strings.iter().map(|string| string.len).sum();
+    let total = |strings: &[Run]| -> usize { strings.iter().map(|string| string.len).sum() };
     let names: Vec<&str> = SIDES.iter().map(|side| side.name).collect();
-    Ok(format!("{total} in {} records, equal on all sides: {}", show.records.len(), names.join(", ")))
+    let (plain, repeated) = (total(&show.strings), total(&show.repeated.strings));
+    Ok(format!("{plain} in {} records, {repeated} in as many with a repeat, equal on all sides: {}", show.records.len(), names.join(", ")))
 }
 
 #[inline(never)]
@@ -159,35 +164,82 @@ fn load_rust(show: &Show, slots: &mut Slots) {
     slots.lengths[0] = at;
 }
 
-fn each(show: &Show, fine: impl Fn(usize, &Run) -> bool) -> Result<(), String> {
-    match show.strings.iter().enumerate().find(|(n, string)| !fine(*n, string)) {
+#[inline(never)]
+fn encode_repeat(show: &Show, slots: &mut Slots) {
+    let mut report: Report = [0; FSQ_REPORT_LENGTH];
+    for (n, record) in show.repeated.records.iter().enumerate() {
+        slots.lengths[n] = rattle::encode(record, 0, &mut slots.bytes[n], &mut report).unwrap_or(0);
+    }
+}
+
+#[inline(never)]
+fn read_repeat(show: &Show, slots: &mut Slots) {
+    let mut out = [0; FSQ_READING_LENGTH];
+    for (n, string) in show.repeated.strings.iter().enumerate() {
+        slots.lengths[n] = rattle::read(&string.bytes[..string.len], 0, &mut out).unwrap_or(0);
+    }
+}
+
+#[inline(never)]
+fn list_repeat(show: &Show, slots: &mut Slots) {
+    let mut report: Report = [0; FSQ_REPORT_LENGTH];
+    for (n, record) in show.repeated.records.iter().enumerate() {
+        slots.lengths[n] = rattle::list(record, 0, &mut slots.lists[n], &mut report).unwrap_or(0);
+    }
+}
+
+#[inline(never)]
+fn load_repeat(show: &Show, slots: &mut Slots) {
+    let mut report: Report = [0; FSQ_REPORT_LENGTH];
+    slots.lengths[0] = rattle::load(&show.repeated.file, &mut slots.image, &mut report).unwrap_or(0);
+}
+
+fn each(strings: &[Run], fine: impl Fn(usize, &Run) -> bool) -> Result<(), String> {
+    match strings.iter().enumerate().find(|(n, string)| !fine(*n, string)) {
         Some((n, _)) => Err(format!("record {n} has another answer")),
         None => Ok(()),
     }
 }
 
 fn bytes(show: &Show, slots: &Slots) -> Result<(), String> {
-    each(show, |n, string| slots.lengths[n] == string.len && slots.bytes[n][..7] == string.bytes && slots.bytes[n][7] == 0)
+    bytes_of(&show.strings, slots)
+}
+
+fn repeat_bytes(show: &Show, slots: &Slots) -> Result<(), String> {
+    bytes_of(&show.repeated.strings, slots)
+}
+
+fn bytes_of(strings: &[Run], slots: &Slots) -> Result<(), String> {
+    each(strings, |n, string| slots.lengths[n] == string.len && slots.bytes[n][..7] == string.bytes && slots.bytes[n][7] == 0)
 }
 
 fn lengths(show: &Show, slots: &Slots) -> Result<(), String> {
-    each(show, |n, string| slots.lengths[n] == string.len)
+    each(&show.strings, |n, string| slots.lengths[n] == string.len)
+}
+
+fn repeat_lengths(show: &Show, slots: &Slots) -> Result<(), String> {
+    each(&show.repeated.strings, |n, string| slots.lengths[n] == string.len)
+}
+
+/// The record's own string is the one entry.
+fn repeat_lists(show: &Show, slots: &Slots) -> Result<(), String> {
+    each(&show.repeated.strings, |n, string| slots.lengths[n] == 1 && slots.lists[n][0] as usize == string.len && slots.lists[n][1..FSQ_ENTRY_LENGTH] == string.bytes)
 }
 
 /// LOCK, REPNE and REP alone are no instruction to Zydis.
 #[cfg(zydis)]
 fn lengths_but_for_prefixes(show: &Show, slots: &Slots) -> Result<(), String> {
-    each(show, |n, string| slots.lengths[n] == if matches!(string.bytes[0], 0xF0 | 0xF2 | 0xF3) { 0 } else { string.len })
+    each(&show.strings, |n, string| slots.lengths[n] == if matches!(string.bytes[0], 0xF0 | 0xF2 | 0xF3) { 0 } else { string.len })
 }
 
 /// The record's own string is among the entries.
 fn lists(show: &Show, slots: &Slots) -> Result<(), String> {
-    each(show, |n, string| slots.lists[n].chunks(FSQ_ENTRY_LENGTH).take(slots.lengths[n]).any(|entry| entry[0] as usize == string.len && entry[1..] == string.bytes))
+    each(&show.strings, |n, string| slots.lists[n].chunks(FSQ_ENTRY_LENGTH).take(slots.lengths[n]).any(|entry| entry[0] as usize == string.len && entry[1..] == string.bytes))
 }
 
 /// A form's line, whose opcode is the first byte of the record's own string that is no segment prefix.
 fn forms(show: &Show, slots: &Slots) -> Result<(), String> {
-    each(show, |n, string| {
+    each(&show.strings, |n, string| {
         let opcode = string.bytes.iter().find(|byte| !matches!(byte, 0x26 | 0x2E | 0x36 | 0x3E)).map_or(0, |opcode| *opcode);
         let (line, behind) = slots.forms[n].split_at(slots.lengths[n]);
         line.starts_with(format!("form {opcode:02X} ").as_bytes()) && line.ends_with(b"\n") && behind.iter().all(|byte| *byte == 0)
@@ -195,7 +247,15 @@ fn forms(show: &Show, slots: &Slots) -> Result<(), String> {
 }
 
 fn image(show: &Show, slots: &Slots) -> Result<(), String> {
-    let whole: Vec<u8> = show.strings.iter().flat_map(|string| &string.bytes[..string.len]).copied().collect();
+    image_of(&show.strings, slots)
+}
+
+fn repeat_image(show: &Show, slots: &Slots) -> Result<(), String> {
+    image_of(&show.repeated.strings, slots)
+}
+
+fn image_of(strings: &[Run], slots: &Slots) -> Result<(), String> {
+    let whole: Vec<u8> = strings.iter().flat_map(|string| &string.bytes[..string.len]).copied().collect();
     let (front, behind) = slots.image.split_at(whole.len());
     if slots.lengths[0] == whole.len() && front == whole && behind.iter().all(|byte| *byte == 0) {
         Ok(())

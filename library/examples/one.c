@@ -1,4 +1,4 @@
-/* Encodes Word ADD [BX],5, tells its form, reads it back, lists all of its strings, and shows a refusal with its question. */
+/* Encodes Word ADD [BX],5, tells its form, reads it back, lists all of its strings, and shows a refusal with its question; then REP MOVSB, encoded and read. */
 #include "fsq.h"
 #include <stdio.h>
 
@@ -10,6 +10,7 @@ static void print_string(const uint8_t *bytes, size_t length) {
 int main(void) {
     fsq_record_t add = fsq_two(FSQ_ADD, fsq_mem(FSQ_WORD, FSQ_BASE_BX, 0), fsq_imm(5));
     fsq_record_t mov = fsq_two(FSQ_MOV, fsq_mem(FSQ_BYTE, FSQ_BASE_BX, 0), fsq_imm(300));
+    fsq_repeat_record_t copy = fsq_with_repeat(fsq_none(FSQ_MOVSB), FSQ_REPEAT_REP);
     uint8_t string[FSQ_STRING_LENGTH];
     fsq_reading_t reading;
     fsq_line_t line;
@@ -45,5 +46,16 @@ int main(void) {
     if (fsq_form_at(&mov, 256, &line, NULL) < 0)
         return 1;
     puts(line.text);
+
+    length = fsq_encode_repeat_at(&copy, 256, string, sizeof string, NULL);
+    if (length < 0)
+        return -length;
+    printf("encoded: ");
+    print_string(string, (size_t) length);
+    length = fsq_read_at(string, (size_t) length, 256, &reading);
+    if (length < 0)
+        return -length;
+    printf("read: operation %d of %d bytes, form %02X, repeat %02X\n", fsq_reading_operation(&reading), length, fsq_reading_opcode(&reading),
+           (unsigned) fsq_reading_repeat(&reading));
     return 0;
 }

@@ -3,8 +3,9 @@
  * library/CMakeLists.txt install header, library and fsq.pc, its pkg-config file.
  *
  * This header has, in this order: the numbers and offsets; the five functions of the library; and over them inline functions, which a program
- * needs no offsets for: operands (fsq_reg, fsq_mem, ..), records (fsq_none, fsq_one, fsq_two), calls whose answer is the length (fsq_encode_at,
- * fsq_list_at, fsq_form_at, fsq_read_at, fsq_load_show), fields, names, and the writing of a show file. library/examples/one.c and show.c use them.
+ * needs no offsets for: operands (fsq_reg, fsq_mem, ..), records (fsq_none, fsq_one, fsq_two), records with a repeat (fsq_with_repeat), calls whose
+ * answer is the length (fsq_encode_at, fsq_list_at, fsq_form_at, fsq_read_at, fsq_load_show), fields, names, and the writing of a show file
+ * (fsq_write_show). library/examples/one.c and show.c use them.
  *
  * The five functions work on slices that the caller lends: an address and a length. For all of them:
  * - A slice of any length is safe. One of length 0 may have any address that is not null.
@@ -21,7 +22,7 @@
 
 /* The version of this header. Another major one may take a name away, another minor one adds some or raises a limit. */
 #define FSQ_VERSION_MAJOR 2
-#define FSQ_VERSION_MINOR 2
+#define FSQ_VERSION_MINOR 3
 
 #ifdef __cplusplus
 extern "C" {
@@ -42,33 +43,36 @@ enum fsq_answer {
     FSQ_NOT_AN_INSTRUCTION = 10,          /* No instruction begins with these bytes, whatever follows them. */
     FSQ_NOT_COMPLETE = 11,                /* The bytes are the front of an instruction, and more are needed. */
     FSQ_NO_MARK = 12,                     /* The file does not begin with "FSQ". */
-    FSQ_WRONG_VERSION = 13,               /* The file's version is neither 1 nor 2. */
-    FSQ_WRONG_LENGTH = 14,                /* The file is not as long as its count says, its version does not take this count, or a record has not 56 bytes. */
-    FSQ_UNKNOWN_CODE = 15                 /* A record has an operation, kind, size or jump kind that does not exist. */
+    FSQ_WRONG_VERSION = 13,               /* The file's version is not 1, 2 or 3. */
+    FSQ_WRONG_LENGTH = 14,                /* The file is not as long as its count says, its version does not take this count, or a record has not 56 or 57 bytes. */
+    FSQ_UNKNOWN_CODE = 15,                /* A record has an operation, kind, size or jump kind that does not exist. */
+    FSQ_INVALID_REPEAT = 23               /* The repeat is not 0, F2 or F3 (hexadecimal), or the operation is no string operation and has one. */
 };
 
 /* Lengths in bytes. */
 enum fsq_length {
-    FSQ_RECORD_LENGTH = 56,   /* a record of a show file */
-    FSQ_REPORT_LENGTH = 28,   /* a report */
-    FSQ_STRING_LENGTH = 7,    /* the longest instruction: a slice of so many bytes takes every one */
-    FSQ_READING_LENGTH = 24,  /* a read instruction */
-    FSQ_ENTRY_LENGTH = 8,     /* an entry of a list */
-    FSQ_LIST_LENGTH = 96,     /* the longest list: twelve entries */
-    FSQ_FORM_LENGTH = 64,     /* the line of a form: a slice of so many bytes takes every one */
-    FSQ_HEADER_LENGTH = 9,    /* what stands before the records of a show file */
-    FSQ_OPERAND_LENGTH = 23,  /* an operand of a record */
-    FSQ_IMAGE_LENGTH = 56000, /* the longest image: a slice of so many bytes takes every one */
-    FSQ_FILE_LENGTH = 448009  /* the longest show file */
+    FSQ_RECORD_LENGTH = 56,         /* a record of a show file of version 1 or 2 */
+    FSQ_REPEAT_RECORD_LENGTH = 57,  /* a record with a repeat: of a show file of version 3 */
+    FSQ_REPORT_LENGTH = 28,         /* a report */
+    FSQ_STRING_LENGTH = 7,          /* the longest instruction: a slice of so many bytes takes every one */
+    FSQ_READING_LENGTH = 24,        /* a read instruction */
+    FSQ_ENTRY_LENGTH = 8,           /* an entry of a list */
+    FSQ_LIST_LENGTH = 96,           /* the longest list: twelve entries */
+    FSQ_FORM_LENGTH = 64,           /* the line of a form: a slice of so many bytes takes every one */
+    FSQ_HEADER_LENGTH = 9,          /* what stands before the records of a show file */
+    FSQ_OPERAND_LENGTH = 23,        /* an operand of a record */
+    FSQ_IMAGE_LENGTH = 56000,       /* the longest image: a slice of so many bytes takes every one */
+    FSQ_FILE_LENGTH = 456009        /* the longest show file, of version 3 */
 };
 
-/* Limits, and the versions of a show file: its count decides which one it has. */
+/* Limits, and the versions of a show file: one in which a record has a repeat is of version 3, and of the others the count decides. */
 enum fsq_limit {
     FSQ_MOST_RECORDS = 8000,   /* of a show file */
     FSQ_SHORT_RECORDS = 1000,  /* the most of a file of version 1, and of one that fsqlist and fsqform print */
     FSQ_MOST_ENTRIES = 12,     /* of a list */
-    FSQ_FILE_VERSION = 1,      /* up to FSQ_SHORT_RECORDS records */
-    FSQ_LONG_VERSION = 2       /* above FSQ_SHORT_RECORDS */
+    FSQ_FILE_VERSION = 1,      /* up to FSQ_SHORT_RECORDS records of 56 bytes */
+    FSQ_LONG_VERSION = 2,      /* above FSQ_SHORT_RECORDS, of 56 bytes */
+    FSQ_REPEAT_VERSION = 3     /* any number to FSQ_MOST_RECORDS, of 57 bytes; all repeats may be 0 */
 };
 
 /* The record in a report that names none. */
@@ -77,7 +81,7 @@ enum fsq_limit {
 /* Where the fields of a report stand. A field that the answer does not give is 0. */
 enum fsq_report {
     FSQ_REPORT_LENGTH_AT = 0,       /* u32: the length or count that the function answers */
-    FSQ_REPORT_SPAN_START_AT = 4,   /* u32: the span of a refusal from 1 to 9 */
+    FSQ_REPORT_SPAN_START_AT = 4,   /* u32: the span of a refusal from 1 to 9, or 23 */
     FSQ_REPORT_SPAN_END_AT = 8,     /* u32 */
     FSQ_REPORT_VALUE_AT = 12,       /* i32: the value of a refusal 5, the distance of a refusal 6 */
     FSQ_REPORT_LOW_AT = 16,         /* i32: the limits of a refusal 5 */
@@ -89,18 +93,20 @@ enum fsq_report {
     FSQ_TOLD_RECORD_AT = FSQ_REPORT_RECORD_AT
 };
 
-/* Where the fields of a show file's header stand. Record k, from 0, stands at 9 + 56 * k. */
+/* Where the fields of a show file's header stand. Record k, from 0, stands at 9 + 56 * k, in version 3 at 9 + 57 * k. */
 enum fsq_header {
     FSQ_HEADER_MARK_AT = 0,      /* 3 bytes: 46 53 51 (hexadecimal), "FSQ" */
-    FSQ_HEADER_VERSION_AT = 3,   /* u16: FSQ_FILE_VERSION, or FSQ_LONG_VERSION above FSQ_SHORT_RECORDS */
+    FSQ_HEADER_VERSION_AT = 3,   /* u16: FSQ_FILE_VERSION, FSQ_LONG_VERSION above FSQ_SHORT_RECORDS, or FSQ_REPEAT_VERSION */
     FSQ_HEADER_ORIGIN_AT = 5,    /* u16: the offset of the first record */
-    FSQ_HEADER_COUNT_AT = 7      /* u16: records, 0 to 1,000 of version 1 and 1,001 to 8,000 of version 2 */
+    FSQ_HEADER_COUNT_AT = 7      /* u16: records, 0 to 1,000 of version 1, 1,001 to 8,000 of version 2, 0 to 8,000 of version 3 */
 };
 
-/* Where the fields of a record stand. Its two operands stand at 10 and 33; an operand that the instruction does not have is all zeros. */
+/* Where the fields of a record of 56 bytes stand. Its two operands stand at 10 and 33; an operand that the instruction does not have is all zeros.
+ * A record of 57 bytes has its repeat behind the count, and what stands here behind it a byte further: the span at 3 and 7, the operands at 11 and 34. */
 enum fsq_record {
     FSQ_OPERATION_AT = 0,      /* u8: enum fsq_operation */
     FSQ_COUNT_AT = 1,          /* u8: operands, 0 to 2 */
+    FSQ_REPEAT_AT = 2,         /* u8: enum fsq_repeat, in a record of 57 bytes alone */
     FSQ_SPAN_START_AT = 2,     /* u32: where the instruction stands in the source; a refusal gives it back */
     FSQ_SPAN_END_AT = 6,       /* u32 */
     FSQ_FIRST_AT = 10,         /* the first operand, 23 bytes */
@@ -137,6 +143,8 @@ enum fsq_kind { FSQ_IMM = 0, FSQ_REG = 1, FSQ_SEG = 2, FSQ_MEM = 3 };
 enum fsq_size { FSQ_UNSPECIFIED = 0, FSQ_BYTE = 1, FSQ_WORD = 2 };
 /* How far a branch goes. JMP without a kind is written as a near one; CALL of kind FSQ_FAR takes its target's offset and segment from memory. */
 enum fsq_jump { FSQ_NO_KIND = 0, FSQ_FAR = 1, FSQ_NEAR = 2, FSQ_SHORT = 3 };
+/* What is written before a string operation, MOVSB to STOSW: its byte. The operations FSQ_REPNE and FSQ_REP are the same bytes as instructions by themselves. */
+enum fsq_repeat { FSQ_REPEAT_NONE = 0, FSQ_REPEAT_REPNE = 0xF2, FSQ_REPEAT_REP = 0xF3 };
 
 /* Where the fields of a read instruction stand. Its two operands stand at 8 and 16. */
 enum fsq_reading {
@@ -145,6 +153,7 @@ enum fsq_reading {
     FSQ_READ_WIDTH_AT = 2,       /* u8: enum fsq_size, FSQ_UNSPECIFIED where the form has none, as a far CALL through memory */
     FSQ_READ_OPCODE_AT = 3,      /* u8: the form's opcode, without the register of a +r or +s */
     FSQ_READ_EXTENSION_AT = 4,   /* u8: enum fsq_extension; 8 + n for /n */
+    FSQ_READ_REPEAT_AT = 5,      /* u8: enum fsq_repeat */
     FSQ_READ_FIRST_AT = 8,       /* the first operand, 8 bytes */
     FSQ_READ_SECOND_AT = 16      /* the second */
 };
@@ -196,18 +205,18 @@ enum fsq_operation {
 };
 
 /* Encodes a record at an offset.
- *   record, record_len   the record, 56 bytes
+ *   record, record_len   the record: 56 bytes, or 57 with a repeat
  *   offset               where its bytes are to stand in the segment
  *   out, out_len         gets the bytes at its front; its later bytes stay
  *   report, report_len   gets the report where it has 28 bytes, else stays as it is; its length is the number of bytes, 1 to 7
- *   answers              FSQ_DONE; FSQ_WRONG_LENGTH where record_len is not 56, then FSQ_UNKNOWN_CODE, then 1 to 8 of the record, then
- *                        FSQ_SLICE_TOO_SHORT
+ *   answers              FSQ_DONE; FSQ_WRONG_LENGTH where record_len is not 56 or 57, then FSQ_UNKNOWN_CODE, then 1 to 8 or FSQ_INVALID_REPEAT of the
+ *                        record, then FSQ_SLICE_TOO_SHORT
  */
 uint8_t fsq_encode(const uint8_t *record, size_t record_len, uint16_t offset, uint8_t *out, size_t out_len, uint8_t *report,
                    size_t report_len);
 
 /* Lists all strings of bytes that are, at an offset, the same instruction as a record's: none missing, and none beside them.
- *   record, record_len   the record, 56 bytes
+ *   record, record_len   the record, as of fsq_encode
  *   offset               where the strings are to stand in the segment
  *   out, out_len         gets, where it has 96 bytes, the entries from its front, 8 bytes each: a string's length, its bytes, zeros; shorter
  *                        strings first, equal lengths by their first differing byte. Its later bytes stay
@@ -218,7 +227,7 @@ uint8_t fsq_list(const uint8_t *record, size_t record_len, uint16_t offset, uint
                  size_t report_len);
 
 /* Tells by which form a record is written at an offset, or which question refuses it, as the line that fsqform prints under the record's.
- *   record, record_len   the record, 56 bytes
+ *   record, record_len   the record, as of fsq_encode
  *   offset               where its bytes are to stand in the segment
  *   out, out_len         gets, where it has 64 bytes, the line in ASCII with its line feed at its front; its later bytes stay.
  *                        `form 83 /0 Reg:Word Imm:Unspecified -128..127`: the opcode as written, its digit where it has one, kind and stated size of
@@ -231,7 +240,8 @@ uint8_t fsq_list(const uint8_t *record, size_t record_len, uint16_t offset, uint
 uint8_t fsq_form(const uint8_t *record, size_t record_len, uint16_t offset, uint8_t *out, size_t out_len, uint8_t *report,
                  size_t report_len);
 
-/* Reads one instruction at the front of some bytes; what follows it is not looked at.
+/* Reads one instruction at the front of some bytes; what follows it is not looked at, but for the byte behind F2 or F3 (hexadecimal): before a string
+ * operation they are its repeat, else an instruction of one byte.
  *   bytes, bytes_len     the bytes
  *   offset               where they stand in the segment: near targets are answered for it
  *   out, out_len         gets the read instruction at its front where it has 24 bytes, else stays as it is; its later bytes stay
@@ -240,19 +250,21 @@ uint8_t fsq_form(const uint8_t *record, size_t record_len, uint16_t offset, uint
 uint8_t fsq_read(const uint8_t *bytes, size_t bytes_len, uint16_t offset, uint8_t *out, size_t out_len);
 
 /* Loads a show file: the bytes of its records, one after the other from its origin on.
- * The file: "FSQ", version u16, origin u16, count u16, then so many records. A file of version 1 has 0 to 1,000, one of version 2 1,001 to 8,000.
+ * The file: "FSQ", version u16, origin u16, count u16, then so many records. A file of version 1 has 0 to 1,000, one of version 2 1,001 to 8,000, of 56
+ * bytes each; one of version 3 has 0 to 8,000, of 57 bytes each.
  *   file, file_len       the whole file
  *   image, image_len     gets the records' bytes at its front; its later bytes stay
  *   report, report_len   gets the report where it has 28 bytes, else stays as it is; its length is that of the image, 0 to 56,000
  *   answers              FSQ_DONE; FSQ_NO_MARK, FSQ_WRONG_VERSION or FSQ_WRONG_LENGTH of the file; FSQ_UNKNOWN_CODE of the first record that has
- *                        one; 1 to 8 of the first record that is refused; FSQ_SLICE_TOO_SHORT of the first record that the image does not hold
+ *                        one; 1 to 8 or FSQ_INVALID_REPEAT of the first record that is refused; FSQ_SLICE_TOO_SHORT of the first record that the image
+ *                        does not hold
  */
 uint8_t fsq_load(const uint8_t *file, size_t file_len, uint8_t *image, size_t image_len, uint8_t *report, size_t report_len);
 
 /* The inline functions.
  *
  * They stand over the five functions and are compiled with the program that includes this header. They allocate nothing and keep nothing.
- * Where one answers an int, it is a length or a count, 0 or more, or a refusal's number made negative, -1 to -15:
+ * Where one answers an int, it is a length or a count, 0 or more, or a refusal's number made negative, -1 to -15 or -23:
  *
  *     int length = fsq_encode_at(&record, offset, out, sizeof out, &report);
  *     if (length < 0)
@@ -264,9 +276,11 @@ uint8_t fsq_load(const uint8_t *file, size_t file_len, uint8_t *image, size_t im
  */
 
 /* An operand, a record, a report, a read instruction and a list: their bytes, as the offsets above name them. A report cannot be too short, and a
- * list has the number of its entries beside them. A line is a string of C. */
+ * list has the number of its entries beside them. A line is a string of C. A record with a repeat is a type of its own, so that it cannot be taken
+ * for one without. */
 typedef struct fsq_operand_t { uint8_t bytes[FSQ_OPERAND_LENGTH]; } fsq_operand_t;
 typedef struct fsq_record_t { uint8_t bytes[FSQ_RECORD_LENGTH]; } fsq_record_t;
+typedef struct fsq_repeat_record_t { uint8_t bytes[FSQ_REPEAT_RECORD_LENGTH]; } fsq_repeat_record_t;
 typedef struct fsq_report_t { uint8_t bytes[FSQ_REPORT_LENGTH]; } fsq_report_t;
 typedef struct fsq_reading_t { uint8_t bytes[FSQ_READING_LENGTH]; } fsq_reading_t;
 typedef struct fsq_list_t { uint8_t bytes[FSQ_LIST_LENGTH], count; } fsq_list_t;
@@ -480,16 +494,34 @@ static inline fsq_record_t fsq_record_with_span(fsq_record_t record, uint32_t st
     return record;
 }
 
-/* Calls. For a null slice the library gets another address, with the length 0. Of a length that is below 256 the lowest byte is read. */
-
-/* Encodes a record at an offset: fsq_encode.
- *   record         the record; null is refused with FSQ_WRONG_LENGTH
- *   offset         where its bytes are to stand in the segment
- *   out, out_len   gets the bytes at its front; its later bytes stay
- *   report         gets the report, or is null
- *   answers        the number of bytes, 1 to 7, or a refusal's number made negative
+/* The same record with a repeat, which is written before its string operation. What else the record has, its span too, comes first:
+ * fsq_with_repeat(fsq_none(FSQ_MOVSB), FSQ_REPEAT_REP).
+ *   record    the record
+ *   repeat    the repeat; any other number is written as 255, and the record is refused with FSQ_INVALID_REPEAT
+ *   answers   the record, 57 bytes; with FSQ_REPEAT_NONE it is the same instruction as the one given
  */
-static inline int fsq_encode_at(const fsq_record_t *record, uint16_t offset, uint8_t *out, size_t out_len, fsq_report_t *report) {
+static inline fsq_repeat_record_t fsq_with_repeat(fsq_record_t record, enum fsq_repeat repeat) {
+    fsq_repeat_record_t repeated = {{0}};
+    size_t i;
+    for (i = 0; i < FSQ_RECORD_LENGTH; i++)
+        repeated.bytes[i < FSQ_REPEAT_AT ? i : i + 1] = record.bytes[i];
+    repeated.bytes[FSQ_REPEAT_AT] = (uint8_t) (repeat == FSQ_REPEAT_NONE || repeat == FSQ_REPEAT_REPNE || repeat == FSQ_REPEAT_REP ? (unsigned) repeat : 255u);
+    return repeated;
+}
+
+/* Calls. For a null slice the library gets another address, with the length 0. Of a length that is below 256 the lowest byte is read.
+ *
+ * fsq_encode_at, fsq_list_at and fsq_form_at take a record without a repeat, fsq_encode_repeat_at, fsq_list_repeat_at and fsq_form_repeat_at one with a
+ * repeat, and fsq_encode_bytes_at, fsq_list_bytes_at and fsq_form_bytes_at the bytes of either, as they stand in a file. */
+
+/* Encodes the bytes of a record at an offset: fsq_encode.
+ *   record, record_len   the record: 56 bytes, or 57 with a repeat; null is refused with FSQ_WRONG_LENGTH
+ *   offset               where its bytes are to stand in the segment
+ *   out, out_len         gets the bytes at its front; its later bytes stay
+ *   report               gets the report, or is null
+ *   answers              the number of bytes, 1 to 7, or a refusal's number made negative
+ */
+static inline int fsq_encode_bytes_at(const uint8_t *record, size_t record_len, uint16_t offset, uint8_t *out, size_t out_len, fsq_report_t *report) {
     fsq_report_t own;
     uint8_t answer;
     if (report == NULL)
@@ -498,45 +530,70 @@ static inline int fsq_encode_at(const fsq_record_t *record, uint16_t offset, uin
         out = report->bytes;
         out_len = 0;
     }
-    answer = fsq_encode(record != NULL ? record->bytes : report->bytes, record != NULL ? (size_t) FSQ_RECORD_LENGTH : 0, offset, out, out_len,
-                        report->bytes, FSQ_REPORT_LENGTH);
+    answer = fsq_encode(record != NULL ? record : report->bytes, record != NULL ? record_len : 0, offset, out, out_len, report->bytes,
+                        FSQ_REPORT_LENGTH);
     return answer == FSQ_DONE ? report->bytes[FSQ_REPORT_LENGTH_AT] : -(int) answer;
 }
 
-/* Lists all strings of bytes that are, at an offset, the same instruction as a record's: fsq_list.
- *   record    the record; null is refused with FSQ_WRONG_LENGTH
- *   offset    where the strings are to stand in the segment
- *   list      gets the entries and their number; on a refusal its bytes stay and the number is 0; null is refused with FSQ_SLICE_TOO_SHORT
- *   report    gets the report, or is null
- *   answers   the number of entries, 1 to 12, or a refusal's number made negative
+/* Encodes a record at an offset.
+ *   record   the record; null is refused with FSQ_WRONG_LENGTH
+ *   the rest as of fsq_encode_bytes_at
  */
-static inline int fsq_list_at(const fsq_record_t *record, uint16_t offset, fsq_list_t *list, fsq_report_t *report) {
+static inline int fsq_encode_at(const fsq_record_t *record, uint16_t offset, uint8_t *out, size_t out_len, fsq_report_t *report) {
+    return fsq_encode_bytes_at(record != NULL ? record->bytes : NULL, FSQ_RECORD_LENGTH, offset, out, out_len, report);
+}
+
+/* The same of a record with a repeat. */
+static inline int fsq_encode_repeat_at(const fsq_repeat_record_t *record, uint16_t offset, uint8_t *out, size_t out_len, fsq_report_t *report) {
+    return fsq_encode_bytes_at(record != NULL ? record->bytes : NULL, FSQ_REPEAT_RECORD_LENGTH, offset, out, out_len, report);
+}
+
+/* Lists all strings of bytes that are, at an offset, the same instruction as a record's: fsq_list.
+ *   record, record_len   as of fsq_encode_bytes_at
+ *   offset               where the strings are to stand in the segment
+ *   list                 gets the entries and their number; on a refusal its bytes stay and the number is 0; null is refused with
+ *                        FSQ_SLICE_TOO_SHORT
+ *   report               gets the report, or is null
+ *   answers              the number of entries, 1 to 12, or a refusal's number made negative
+ */
+static inline int fsq_list_bytes_at(const uint8_t *record, size_t record_len, uint16_t offset, fsq_list_t *list, fsq_report_t *report) {
     fsq_report_t own;
     uint8_t answer;
     if (report == NULL)
         report = &own;
-    answer = fsq_list(record != NULL ? record->bytes : report->bytes, record != NULL ? (size_t) FSQ_RECORD_LENGTH : 0, offset,
-                      list != NULL ? list->bytes : report->bytes, list != NULL ? (size_t) FSQ_LIST_LENGTH : 0, report->bytes, FSQ_REPORT_LENGTH);
+    answer = fsq_list(record != NULL ? record : report->bytes, record != NULL ? record_len : 0, offset, list != NULL ? list->bytes : report->bytes,
+                      list != NULL ? (size_t) FSQ_LIST_LENGTH : 0, report->bytes, FSQ_REPORT_LENGTH);
     /* 0 where it is refused. */
     if (list != NULL)
         list->count = report->bytes[FSQ_REPORT_LENGTH_AT];
     return answer == FSQ_DONE ? report->bytes[FSQ_REPORT_LENGTH_AT] : -(int) answer;
 }
 
+/* The same of a record: as of fsq_encode_at. */
+static inline int fsq_list_at(const fsq_record_t *record, uint16_t offset, fsq_list_t *list, fsq_report_t *report) {
+    return fsq_list_bytes_at(record != NULL ? record->bytes : NULL, FSQ_RECORD_LENGTH, offset, list, report);
+}
+
+/* The same of a record with a repeat. */
+static inline int fsq_list_repeat_at(const fsq_repeat_record_t *record, uint16_t offset, fsq_list_t *list, fsq_report_t *report) {
+    return fsq_list_bytes_at(record != NULL ? record->bytes : NULL, FSQ_REPEAT_RECORD_LENGTH, offset, list, report);
+}
+
 /* Tells by which form a record is written at an offset, or which question refuses it: fsq_form.
- *   record    the record; null is refused with FSQ_WRONG_LENGTH
- *   offset    where its bytes are to stand in the segment
- *   line      gets the line, a 0 in the place of its line feed, and on a refusal the empty string; null is refused with FSQ_SLICE_TOO_SHORT
- *   report    gets the report, or is null
- *   answers   the length of the string, or a refusal's number made negative; a record that is refused has a line too, `question N`
+ *   record, record_len   as of fsq_encode_bytes_at
+ *   offset               where its bytes are to stand in the segment
+ *   line                 gets the line, a 0 in the place of its line feed, and on a refusal the empty string; null is refused with
+ *                        FSQ_SLICE_TOO_SHORT
+ *   report               gets the report, or is null
+ *   answers              the length of the string, or a refusal's number made negative; a record that is refused has a line too, `question N`
  */
-static inline int fsq_form_at(const fsq_record_t *record, uint16_t offset, fsq_line_t *line, fsq_report_t *report) {
+static inline int fsq_form_bytes_at(const uint8_t *record, size_t record_len, uint16_t offset, fsq_line_t *line, fsq_report_t *report) {
     fsq_report_t own;
     uint8_t answer;
     int length;
     if (report == NULL)
         report = &own;
-    answer = fsq_form(record != NULL ? record->bytes : report->bytes, record != NULL ? (size_t) FSQ_RECORD_LENGTH : 0, offset,
+    answer = fsq_form(record != NULL ? record : report->bytes, record != NULL ? record_len : 0, offset,
                       line != NULL ? (uint8_t *) line->text : report->bytes, line != NULL ? (size_t) FSQ_FORM_LENGTH : 0, report->bytes,
                       FSQ_REPORT_LENGTH);
     length = answer == FSQ_DONE ? report->bytes[FSQ_REPORT_LENGTH_AT] - 1 : 0;
@@ -545,7 +602,17 @@ static inline int fsq_form_at(const fsq_record_t *record, uint16_t offset, fsq_l
     return answer == FSQ_DONE ? length : -(int) answer;
 }
 
-/* Reads one instruction at the front of some bytes: fsq_read. What follows it is not looked at.
+/* The same of a record: as of fsq_encode_at. */
+static inline int fsq_form_at(const fsq_record_t *record, uint16_t offset, fsq_line_t *line, fsq_report_t *report) {
+    return fsq_form_bytes_at(record != NULL ? record->bytes : NULL, FSQ_RECORD_LENGTH, offset, line, report);
+}
+
+/* The same of a record with a repeat. */
+static inline int fsq_form_repeat_at(const fsq_repeat_record_t *record, uint16_t offset, fsq_line_t *line, fsq_report_t *report) {
+    return fsq_form_bytes_at(record != NULL ? record->bytes : NULL, FSQ_REPEAT_RECORD_LENGTH, offset, line, report);
+}
+
+/* Reads one instruction at the front of some bytes: fsq_read. What follows it is not looked at, but for the byte behind F2 or F3.
  *   bytes, bytes_len   the bytes
  *   offset             where they stand in the segment: near targets are answered for it
  *   reading            gets the read instruction, or is null; stays on a refusal
@@ -594,7 +661,7 @@ static inline uint32_t fsq_report_length(const fsq_report_t *report) {
     return fsq_get_u32(report->bytes + FSQ_REPORT_LENGTH_AT);
 }
 
-/* The first position in the source of what a refusal from 1 to 9 is about. */
+/* The first position in the source of what a refusal from 1 to 9, or 23, is about. */
 static inline uint32_t fsq_report_span_start(const fsq_report_t *report) {
     return fsq_get_u32(report->bytes + FSQ_REPORT_SPAN_START_AT);
 }
@@ -675,6 +742,11 @@ static inline uint8_t fsq_reading_extension(const fsq_reading_t *reading) {
     return reading->bytes[FSQ_READ_EXTENSION_AT];
 }
 
+/* The repeat before its string operation, or FSQ_REPEAT_NONE. */
+static inline enum fsq_repeat fsq_reading_repeat(const fsq_reading_t *reading) {
+    return (enum fsq_repeat) reading->bytes[FSQ_READ_REPEAT_AT];
+}
+
 /* The address in a read instruction of an operand's 8 bytes. */
 static inline const uint8_t *fsq_reading_operand(const fsq_reading_t *reading, unsigned operand) {
     return reading->bytes + (operand == 0 ? FSQ_READ_FIRST_AT : FSQ_READ_SECOND_AT);
@@ -707,17 +779,22 @@ static inline uint16_t fsq_reading_far_segment(const fsq_reading_t *reading, uns
 
 /* Names. */
 
+/* Where the two lists below have an answer: by its number up to 15, then 23, then all that there is not. */
+static inline unsigned fsq_refusal_place(int answer) {
+    return answer >= 0 ? 0 : answer >= -FSQ_UNKNOWN_CODE ? (unsigned) -answer : FSQ_UNKNOWN_CODE + (answer == -FSQ_INVALID_REPEAT ? 1u : 2u);
+}
+
 /* The name of a refusal, as enum fsq_answer has it without FSQ_.
  *   answer    what an inline function answers; what one of the library's answers is to be made negative
- *   answers   the name; "DONE" of 0 and every length, "UNKNOWN" below -15
+ *   answers   the name; "DONE" of 0 and every length, "UNKNOWN" of -16 to -22 and below -23
  */
 static inline const char *fsq_refusal_name(int answer) {
     static const char *const names[] = {
         "DONE", "INVALID_OPERANDS", "OPERAND_SIZE_NOT_SPECIFIED", "OPERAND_SIZES_DO_NOT_MATCH", "INVALID_OPERAND_SIZE",
         "IMMEDIATE_OUT_OF_RANGE", "RELATIVE_JUMP_OUT_OF_RANGE", "NOT_SUPPORTED", "NOT_WELL_FORMED", "SLICE_TOO_SHORT",
-        "NOT_AN_INSTRUCTION", "NOT_COMPLETE", "NO_MARK", "WRONG_VERSION", "WRONG_LENGTH", "UNKNOWN_CODE", "UNKNOWN"
+        "NOT_AN_INSTRUCTION", "NOT_COMPLETE", "NO_MARK", "WRONG_VERSION", "WRONG_LENGTH", "UNKNOWN_CODE", "INVALID_REPEAT", "UNKNOWN"
     };
-    return names[answer >= 0 ? 0 : answer < -FSQ_UNKNOWN_CODE ? FSQ_UNKNOWN_CODE + 1 : -answer];
+    return names[fsq_refusal_place(answer)];
 }
 
 /* A refusal in words.
@@ -739,12 +816,13 @@ static inline const char *fsq_refusal_sentence(int answer) {
         "No instruction begins with these bytes.",
         "The bytes are the front of an instruction, and more are needed.",
         "The file does not begin with \"FSQ\".",
-        "The file's version is neither 1 nor 2.",
-        "The file is not as long as its count says, its version does not take this count, or a record has not 56 bytes.",
+        "The file's version is not 1, 2 or 3.",
+        "The file is not as long as its count says, its version does not take this count, or a record has not 56 or 57 bytes.",
         "A record has an operation, kind, size or jump kind that does not exist.",
+        "The repeat is neither REP nor REPNE, or the operation takes none.",
         "This header does not know the refusal."
     };
-    return sentences[answer >= 0 ? 0 : answer < -FSQ_UNKNOWN_CODE ? FSQ_UNKNOWN_CODE + 1 : -answer];
+    return sentences[fsq_refusal_place(answer)];
 }
 
 /* The name of an operation.
@@ -763,15 +841,12 @@ static inline const char *fsq_operation_name(enum fsq_operation operation) {
     return names[(unsigned) operation <= (unsigned) FSQ_SALC ? (unsigned) operation : (unsigned) FSQ_SALC + 1u];
 }
 
-/* Show files. */
+/* Show files. A plain way to one is fsq_write_show. With the other functions a file is written piece by piece: fsq_write_header and fsq_write_record for
+ * records without a repeat, fsq_write_repeat_header and fsq_write_repeat_record for version 3. A file of one's header and the other's records has
+ * another length than its count says, and is refused with FSQ_WRONG_LENGTH. */
 
-/* Writes the header of a show file: of version 1 up to 1,000 records, of version 2 above.
- *   file, file_len   gets the header at its front, 9 bytes; its later bytes stay
- *   origin           the offset of the first record
- *   count            the number of records
- *   answers          the length of the header, 9; -14 where count is above 8,000, then -9 where file_len is below 9; then nothing is written
- */
-static inline int fsq_write_header(uint8_t *file, size_t file_len, uint16_t origin, uint16_t count) {
+/* Writes the header of a show file of a version: what fsq_write_header and fsq_write_repeat_header answer. */
+static inline int fsq_put_header(uint8_t *file, size_t file_len, uint16_t version, uint16_t origin, uint16_t count) {
     if (count > FSQ_MOST_RECORDS)
         return -FSQ_WRONG_LENGTH;
     if (file == NULL || file_len < FSQ_HEADER_LENGTH)
@@ -779,13 +854,40 @@ static inline int fsq_write_header(uint8_t *file, size_t file_len, uint16_t orig
     file[FSQ_HEADER_MARK_AT] = 0x46;
     file[FSQ_HEADER_MARK_AT + 1] = 0x53;
     file[FSQ_HEADER_MARK_AT + 2] = 0x51;
-    fsq_put_u16(file + FSQ_HEADER_VERSION_AT, (uint16_t) (count <= FSQ_SHORT_RECORDS ? FSQ_FILE_VERSION : FSQ_LONG_VERSION));
+    fsq_put_u16(file + FSQ_HEADER_VERSION_AT, version);
     fsq_put_u16(file + FSQ_HEADER_ORIGIN_AT, origin);
     fsq_put_u16(file + FSQ_HEADER_COUNT_AT, count);
     return FSQ_HEADER_LENGTH;
 }
 
-/* Writes a record of a show file.
+/* Writes a record of so many bytes behind those before it: what fsq_write_record and fsq_write_repeat_record answer. */
+static inline int fsq_put_record(uint8_t *file, size_t file_len, uint16_t number, const uint8_t *record, size_t record_len) {
+    size_t at = FSQ_HEADER_LENGTH + (size_t) number * record_len, i;
+    if (number >= FSQ_MOST_RECORDS || record == NULL)
+        return -FSQ_WRONG_LENGTH;
+    if (file == NULL || file_len < at + record_len)
+        return -FSQ_SLICE_TOO_SHORT;
+    for (i = 0; i < record_len; i++)
+        file[at + i] = record[i];
+    return (int) (at + record_len);
+}
+
+/* Writes the header of a show file without repeats: of version 1 up to 1,000 records, of version 2 above.
+ *   file, file_len   gets the header at its front, 9 bytes; its later bytes stay
+ *   origin           the offset of the first record
+ *   count            the number of records
+ *   answers          the length of the header, 9; -14 where count is above 8,000, then -9 where file_len is below 9; then nothing is written
+ */
+static inline int fsq_write_header(uint8_t *file, size_t file_len, uint16_t origin, uint16_t count) {
+    return fsq_put_header(file, file_len, (uint16_t) (count <= FSQ_SHORT_RECORDS ? FSQ_FILE_VERSION : FSQ_LONG_VERSION), origin, count);
+}
+
+/* Writes the header of a show file of version 3, whose records have a repeat: as fsq_write_header. */
+static inline int fsq_write_repeat_header(uint8_t *file, size_t file_len, uint16_t origin, uint16_t count) {
+    return fsq_put_header(file, file_len, FSQ_REPEAT_VERSION, origin, count);
+}
+
+/* Writes a record of a show file without repeats.
  *   file, file_len   gets the record at 9 + 56 * number; its other bytes stay
  *   number           the record, from 0
  *   record           the record, copied
@@ -793,14 +895,41 @@ static inline int fsq_write_header(uint8_t *file, size_t file_len, uint16_t orig
  *                    shorter than that; then nothing is written
  */
 static inline int fsq_write_record(uint8_t *file, size_t file_len, uint16_t number, const fsq_record_t *record) {
-    size_t at = FSQ_HEADER_LENGTH + (size_t) number * FSQ_RECORD_LENGTH, i;
-    if (number >= FSQ_MOST_RECORDS || record == NULL)
+    return fsq_put_record(file, file_len, number, record != NULL ? record->bytes : NULL, FSQ_RECORD_LENGTH);
+}
+
+/* Writes a record of a show file of version 3, at 9 + 57 * number: as fsq_write_record. */
+static inline int fsq_write_repeat_record(uint8_t *file, size_t file_len, uint16_t number, const fsq_repeat_record_t *record) {
+    return fsq_put_record(file, file_len, number, record != NULL ? record->bytes : NULL, FSQ_REPEAT_RECORD_LENGTH);
+}
+
+/* Writes a whole show file, of the version that its records have: 3 where one of them has a repeat, else 1 up to 1,000 records and 2 above.
+ *   file, file_len   gets the file at its front; its later bytes stay. 9 + 57 * count bytes are enough, and FSQ_FILE_LENGTH for every file
+ *   origin           the offset of the first record
+ *   records, count   the records, copied; fsq_with_repeat with FSQ_REPEAT_NONE makes one without a repeat
+ *   answers          the length of the file; -14 where count is above 8,000, or above 0 and records null, then -9 where the file is shorter than
+ *                    that; then nothing is written
+ */
+static inline int fsq_write_show(uint8_t *file, size_t file_len, uint16_t origin, const fsq_repeat_record_t *records, size_t count) {
+    size_t each = FSQ_RECORD_LENGTH, i, k;
+    uint8_t *at;
+    if (count > FSQ_MOST_RECORDS || (count != 0 && records == NULL))
         return -FSQ_WRONG_LENGTH;
-    if (file == NULL || file_len < at + FSQ_RECORD_LENGTH)
+    for (k = 0; k < count; k++)
+        if (records[k].bytes[FSQ_REPEAT_AT] != FSQ_REPEAT_NONE)
+            each = FSQ_REPEAT_RECORD_LENGTH;
+    if (file == NULL || file_len < FSQ_HEADER_LENGTH + each * count)
         return -FSQ_SLICE_TOO_SHORT;
-    for (i = 0; i < FSQ_RECORD_LENGTH; i++)
-        file[at + i] = record->bytes[i];
-    return (int) at + FSQ_RECORD_LENGTH;
+    if (each == FSQ_RECORD_LENGTH)
+        (void) fsq_write_header(file, file_len, origin, (uint16_t) count);
+    else
+        (void) fsq_write_repeat_header(file, file_len, origin, (uint16_t) count);
+    at = file + FSQ_HEADER_LENGTH;
+    for (k = 0; k < count; k++)
+        for (i = 0; i < FSQ_REPEAT_RECORD_LENGTH; i++)
+            if (i != FSQ_REPEAT_AT || each == FSQ_REPEAT_RECORD_LENGTH)
+                *at++ = records[k].bytes[i];
+    return (int) (FSQ_HEADER_LENGTH + each * count);
 }
 
 #ifdef __cplusplus

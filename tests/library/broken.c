@@ -14,6 +14,11 @@ static int fault(const char *name) {
     return named != NULL && strcmp(named, name) == 0;
 }
 
+// The repeat of a record, 0 where it has none.
+static uint8_t repeat_of(const uint8_t *record, size_t n) {
+    return n == FSQ_REPEAT_RECORD_LENGTH ? record[FSQ_REPEAT_AT] : 0;
+}
+
 uint8_t fsq_encode(const uint8_t *record, size_t n, uint16_t offset, uint8_t *out, size_t m, uint8_t *report, size_t k) {
     uint8_t answer;
     int accepted, reported = k >= FSQ_REPORT_LENGTH;
@@ -40,6 +45,39 @@ uint8_t fsq_encode(const uint8_t *record, size_t n, uint16_t offset, uint8_t *ou
         report[FSQ_REPORT_HIGH_AT] ^= 1;
     if (fault("a-record-named") && !accepted && reported)
         memset(report + FSQ_REPORT_RECORD_AT, 0, 4);
+    // the repeat
+    if (fault("f2-for-f3") && accepted && repeat_of(record, n) == 0xF3)
+        out[0] = 0xF2;
+    if (fault("repeat-dropped") && accepted && repeat_of(record, n) != 0)
+        answer = right_encode((const uint8_t[FSQ_RECORD_LENGTH]) {record[FSQ_OPERATION_AT]}, FSQ_RECORD_LENGTH, offset, out, m, report, k);
+    if (fault("repeat-before-lock") && answer == FSQ_INVALID_REPEAT && record[FSQ_OPERATION_AT] == FSQ_LOCK && record[FSQ_REPEAT_AT] == 0xF3)
+        return FSQ_DONE;
+    if (fault("repeat-f1-taken") && answer == FSQ_INVALID_REPEAT && record[FSQ_REPEAT_AT] == 0xF1)
+        return FSQ_DONE;
+    if (fault("repeat-99-of-lodsw-taken") && answer == FSQ_INVALID_REPEAT && record[FSQ_OPERATION_AT] == FSQ_LODSW && record[FSQ_REPEAT_AT] == 99)
+        return FSQ_DONE;
+    if (fault("23-before-8") && answer == FSQ_NOT_WELL_FORMED && (repeat_of(record, n) == 0xF0 || repeat_of(record, n) == 0xF3))
+        answer = FSQ_INVALID_REPEAT;
+    if (fault("8-for-23") && answer == FSQ_INVALID_REPEAT)
+        answer = FSQ_NOT_WELL_FORMED;
+    if (fault("7-before-23") && answer == FSQ_INVALID_REPEAT && record[FSQ_OPERATION_AT] == FSQ_ESC)
+        answer = FSQ_NOT_SUPPORTED;
+    if (fault("5-before-23") && answer == FSQ_INVALID_REPEAT && record[FSQ_OPERATION_AT] == FSQ_MOV)
+        answer = FSQ_IMMEDIATE_OUT_OF_RANGE;
+    if (fault("9-before-23") && answer == FSQ_INVALID_REPEAT && m < 2)
+        answer = FSQ_SLICE_TOO_SHORT;
+    if (fault("23-before-15") && answer == FSQ_UNKNOWN_CODE && repeat_of(record, n) != 0)
+        answer = FSQ_INVALID_REPEAT;
+    if (fault("23-without-a-span") && answer == FSQ_INVALID_REPEAT && reported)
+        memset(report + FSQ_REPORT_SPAN_START_AT, 0, 8);
+    if (fault("23-with-a-value") && answer == FSQ_INVALID_REPEAT && reported)
+        report[FSQ_REPORT_VALUE_AT] = record[FSQ_REPEAT_AT];
+    if (fault("57-bytes-refused") && n == FSQ_REPEAT_RECORD_LENGTH)
+        answer = FSQ_WRONG_LENGTH;
+    if (fault("58-bytes-taken") && n == FSQ_REPEAT_RECORD_LENGTH + 1)
+        answer = right_encode(record, FSQ_REPEAT_RECORD_LENGTH, offset, out, m, report, k);
+    if (fault("55-bytes-taken") && n == FSQ_RECORD_LENGTH - 1)
+        return FSQ_DONE;
     return answer;
 }
 
@@ -47,6 +85,18 @@ uint8_t fsq_list(const uint8_t *record, size_t n, uint16_t offset, uint8_t *out,
     uint8_t answer = right_list(record, n, offset, out, m, report, k);
     if (fault("last-entry-missing") && answer == FSQ_DONE && k >= FSQ_REPORT_LENGTH)
         memset(out + FSQ_ENTRY_LENGTH * (size_t) --report[FSQ_REPORT_LENGTH_AT], 0, FSQ_ENTRY_LENGTH);
+    // F2 A4 beside F3 A4; MOVSB alone; F3 A4 beside plain REP
+    if (fault("both-repeats-listed") && answer == FSQ_DONE && k >= FSQ_REPORT_LENGTH && repeat_of(record, n) != 0) {
+        memcpy(out + FSQ_ENTRY_LENGTH, out, FSQ_ENTRY_LENGTH);
+        out[1] = 0xF2;
+        report[FSQ_REPORT_LENGTH_AT] = 2;
+    }
+    if (fault("list-without-the-repeat") && answer == FSQ_DONE && repeat_of(record, n) != 0)
+        memcpy(out, (uint8_t[]) {1, out[2], 0}, 3);
+    if (fault("a-string-listed-of-rep") && answer == FSQ_DONE && k >= FSQ_REPORT_LENGTH && record[FSQ_OPERATION_AT] == FSQ_REP) {
+        memcpy(out + FSQ_ENTRY_LENGTH, "\2\xF3\xA4\0\0\0\0", FSQ_ENTRY_LENGTH);
+        report[FSQ_REPORT_LENGTH_AT] = 2;
+    }
     return answer;
 }
 
@@ -67,6 +117,10 @@ uint8_t fsq_form(const uint8_t *record, size_t n, uint16_t offset, uint8_t *out,
         out[0] = 'f';
     if (fault("9-where-refused") && whole && out[0] == 'q')
         answer = FSQ_SLICE_TOO_SHORT;
+    if (fault("form-of-the-repeat") && whole && out[0] == 'f' && repeat_of(record, n) != 0)
+        memcpy(out + 5, repeat_of(record, n) == 0xF3 ? "F3" : "F2", 2);
+    if (fault("question-2-of-23") && whole && out[0] == 'q' && right_encode(record, n, offset, (uint8_t[FSQ_STRING_LENGTH]) {0}, FSQ_STRING_LENGTH, report, 0) == FSQ_INVALID_REPEAT)
+        out[*length - 2] = '2';
     return answer;
 }
 
@@ -79,11 +133,42 @@ uint8_t fsq_read(const uint8_t *bytes, size_t n, uint16_t offset, uint8_t *out, 
         out[FSQ_READ_FIRST_AT + FSQ_READ_NUMBER_AT] ^= 1;
     if (fault("10-for-11") && answer == FSQ_NOT_COMPLETE)
         return FSQ_NOT_AN_INSTRUCTION;
+    // F2 and F3: the reader before the repeat, and what it might take for one
+    if (fault("f3-a4-as-two") && answer == FSQ_DONE && n > 1 && bytes[0] >= 0xF2 && bytes[0] <= 0xF3)
+        return right_read(bytes, 1, offset, out, m);
+    if (fault("f3-answered-11") && n == 1 && bytes[0] == 0xF3) {
+        if (whole)
+            memset(out, 0xA5, FSQ_READING_LENGTH);
+        return FSQ_NOT_COMPLETE;
+    }
+    if (fault("f3-90-as-one") && whole && n > 1 && bytes[0] == 0xF3 && bytes[1] == 0x90) {
+        right_read(bytes + 1, 1, offset, out, m);
+        out[FSQ_READ_LENGTH_AT] = 2;
+        out[FSQ_READ_REPEAT_AT] = 0xF3;
+    }
+    if (fault("f3-26-a4-as-one") && whole && n > 2 && bytes[0] == 0xF3 && bytes[1] == 0x26 && bytes[2] == 0xA4)
+        out[FSQ_READ_LENGTH_AT] = 3;
+    if (fault("f3-f3-a4-as-one") && whole && n > 2 && bytes[0] == 0xF3 && bytes[1] == 0xF3 && bytes[2] == 0xA4)
+        out[FSQ_READ_LENGTH_AT] = 3;
+    if (fault("f3-a8-as-one") && whole && n > 1 && bytes[0] == 0xF3 && bytes[1] == 0xA8)
+        out[FSQ_READ_LENGTH_AT] = 2;
+    if (fault("repeat-not-read") && whole)
+        out[FSQ_READ_REPEAT_AT] = 0;
+    if (fault("repeat-read-as-rep") && whole && out[FSQ_READ_REPEAT_AT] == 0xF2)
+        out[FSQ_READ_REPEAT_AT] = 0xF3;
+    if (fault("repeat-read-at-6") && whole) {
+        out[FSQ_READ_REPEAT_AT + 1] = out[FSQ_READ_REPEAT_AT];
+        out[FSQ_READ_REPEAT_AT] = 0;
+    }
+    if (fault("opcode-of-the-repeat") && whole && out[FSQ_READ_REPEAT_AT] != 0)
+        out[FSQ_READ_OPCODE_AT] = out[FSQ_READ_REPEAT_AT];
     return answer;
 }
 
 uint8_t fsq_load(const uint8_t *file, size_t n, uint8_t *image, size_t m, uint8_t *report, size_t k) {
     uint8_t answer = right_load(file, n, image, m, report, k);
+    uint16_t version = n >= FSQ_HEADER_LENGTH ? fsq_get_u16(file + FSQ_HEADER_VERSION_AT) : 0;
+    size_t count = n >= FSQ_HEADER_LENGTH ? fsq_get_u16(file + FSQ_HEADER_COUNT_AT) : 0;
     int is_long = n > FSQ_HEADER_LENGTH + FSQ_SHORT_RECORDS * FSQ_RECORD_LENGTH, reported = k >= FSQ_REPORT_LENGTH;
     // the loader before version 2
     if (fault("13-for-version-2") && n >= FSQ_HEADER_LENGTH && file[FSQ_HEADER_VERSION_AT] == FSQ_LONG_VERSION)
@@ -92,8 +177,33 @@ uint8_t fsq_load(const uint8_t *file, size_t n, uint8_t *image, size_t m, uint8_
         return FSQ_DONE;
     if (fault("version-1-of-1001") && answer == FSQ_WRONG_LENGTH && is_long && file[FSQ_HEADER_VERSION_AT] == FSQ_FILE_VERSION)
         return FSQ_DONE;
-    if (fault("8001-records") && answer == FSQ_WRONG_LENGTH && n == FSQ_FILE_LENGTH + FSQ_RECORD_LENGTH)
+    if (fault("8001-records") && answer == FSQ_WRONG_LENGTH && n == FSQ_HEADER_LENGTH + (FSQ_MOST_RECORDS + 1) * FSQ_RECORD_LENGTH)
         return FSQ_DONE;
+    // version 3, and the loader before it
+    if (fault("13-for-version-3") && version == FSQ_REPEAT_VERSION)
+        return FSQ_WRONG_VERSION;
+    if (fault("version-4-taken") && version == FSQ_REPEAT_VERSION + 1)
+        return FSQ_DONE;
+    if (fault("version-3-at-56-bytes") && answer == FSQ_WRONG_LENGTH && version == FSQ_REPEAT_VERSION && n == FSQ_HEADER_LENGTH + count * FSQ_RECORD_LENGTH)
+        return FSQ_DONE;
+    if (fault("57-bytes-in-version-1") && answer == FSQ_WRONG_LENGTH && version == FSQ_FILE_VERSION && n == FSQ_HEADER_LENGTH + count * FSQ_REPEAT_RECORD_LENGTH)
+        return FSQ_DONE;
+    if (fault("57-bytes-in-version-2") && answer == FSQ_WRONG_LENGTH && version == FSQ_LONG_VERSION && n == FSQ_HEADER_LENGTH + count * FSQ_REPEAT_RECORD_LENGTH)
+        return FSQ_DONE;
+    if (fault("version-3-of-no-records-refused") && version == FSQ_REPEAT_VERSION && count == 0)
+        return FSQ_WRONG_LENGTH;
+    if (fault("version-3-above-1000-alone") && version == FSQ_REPEAT_VERSION && count <= FSQ_SHORT_RECORDS)
+        return FSQ_WRONG_LENGTH;
+    if (fault("8000-of-version-3-refused") && version == FSQ_REPEAT_VERSION && count == FSQ_MOST_RECORDS)
+        return FSQ_WRONG_LENGTH;
+    if (fault("8001-of-version-3") && answer == FSQ_WRONG_LENGTH && n == FSQ_FILE_LENGTH + FSQ_REPEAT_RECORD_LENGTH)
+        return FSQ_DONE;
+    if (fault("15-for-a-repeat-of-99") && answer == FSQ_INVALID_REPEAT)
+        return FSQ_UNKNOWN_CODE;
+    if (fault("23-before-15-in-a-file") && answer == FSQ_UNKNOWN_CODE && version == FSQ_REPEAT_VERSION)
+        return FSQ_INVALID_REPEAT;
+    if (fault("f2-for-f3-in-an-image") && answer == FSQ_DONE && version == FSQ_REPEAT_VERSION && reported && m != 0 && image[0] == 0xF3)
+        image[0] = 0xF2;
     if (fault("byte-beyond-1000-records") && answer == FSQ_DONE && is_long && reported)
         image[fsq_get_u32(report + FSQ_REPORT_LENGTH_AT) - 1] ^= 1;
     if (fault("record-in-a-byte") && answer != FSQ_DONE && is_long && reported && fsq_get_u32(report + FSQ_REPORT_RECORD_AT) != FSQ_NO_RECORD)

@@ -16,12 +16,14 @@ static void check(int good, const char *what, int line) {
 #define ENCODES(record, offset, bytes) encodes((record), (offset), (bytes), __LINE__)
 #define REFUSED(record, offset, number) refused((record), (offset), (number), __LINE__)
 #define FORM(record, offset, text) form_is((record), (offset), (text), __LINE__)
+#define REPEAT(record, offset, bytes, form) repeat_is((record), (offset), (bytes), (form), __LINE__)
+#define REPEAT_REFUSED(record, number, question) repeat_refused((record), (number), (question), __LINE__)
 
 /* What the numbers of an enum may be besides its names: in C++ those of as many bits, in C all, of which 256 has the byte of 0. */
 #ifdef __cplusplus
-enum { REGISTERS = 15, SEGMENTS = 3, BASES = 15, SIZES = 3, JUMPS = 3, OPERATIONS = 127, LEAST = 0 };
+enum { REGISTERS = 15, SEGMENTS = 3, BASES = 15, SIZES = 3, JUMPS = 3, REPEATS = 255, OPERATIONS = 127, LEAST = 0 };
 #else
-enum { REGISTERS = 20, SEGMENTS = 20, BASES = 20, SIZES = 260, JUMPS = 260, OPERATIONS = 260, LEAST = -2 };
+enum { REGISTERS = 20, SEGMENTS = 20, BASES = 20, SIZES = 260, JUMPS = 260, REPEATS = 516, OPERATIONS = 260, LEAST = -2 };
 #endif
 
 /* Bytes in hexadecimal, with blanks between them. */
@@ -89,6 +91,43 @@ static void form_is(fsq_record_t record, uint16_t offset, const char *text, int 
     check((fsq_encode_at(&record, offset, out, sizeof out, NULL) < 0) == (question != 0), text, line);
 }
 
+/* A record with a repeat: these bytes, its list of them alone, its form, and the same of its 57 bytes. */
+static void repeat_is(fsq_repeat_record_t record, uint16_t offset, const char *bytes, const char *form, int line) {
+    uint8_t out[FSQ_STRING_LENGTH], again[FSQ_STRING_LENGTH];
+    fsq_report_t told, other;
+    fsq_list_t list;
+    fsq_line_t string;
+    int length, i, stays = 1;
+    memset(out, 0xA5, sizeof out);
+    memset(again, 0xA5, sizeof again);
+    length = fsq_encode_repeat_at(&record, offset, out, sizeof out, &told);
+    for (i = length < 0 ? 0 : length; i < FSQ_STRING_LENGTH; i++)
+        stays &= out[i] == 0xA5;
+    check(length > 0 && is(out, (size_t) length, bytes) && stays && fsq_report_length(&told) == (uint32_t) length, bytes, line);
+    check(fsq_encode_bytes_at(record.bytes, sizeof record.bytes, offset, again, sizeof again, &other) == length && memcmp(&told, &other, sizeof told) == 0
+          && memcmp(again, out, sizeof out) == 0, bytes, line);
+    check(fsq_list_repeat_at(&record, offset, &list, NULL) == 1 && list.count == 1 && is(fsq_entry_bytes(&list, 0), fsq_entry_length(&list, 0), bytes), bytes, line);
+    check(fsq_list_bytes_at(record.bytes, sizeof record.bytes, offset, &list, NULL) == 1, bytes, line);
+    check(fsq_form_repeat_at(&record, offset, &string, NULL) == (int) strlen(form) && strcmp(string.text, form) == 0, form, line);
+    check(fsq_form_bytes_at(record.bytes, sizeof record.bytes, offset, &string, NULL) == (int) strlen(form) && strcmp(string.text, form) == 0, form, line);
+}
+
+/* A record with a repeat that is refused, with the question that refuses it, or 0 where none is asked; the report is that of all three calls. */
+static fsq_report_t repeat_refused(fsq_repeat_record_t record, int number, int question, int line) {
+    uint8_t out[FSQ_STRING_LENGTH];
+    fsq_report_t report, other;
+    fsq_list_t list;
+    fsq_line_t string;
+    int answer;
+    memset(out, 0xA5, sizeof out);
+    answer = fsq_encode_repeat_at(&record, 0, out, sizeof out, &report);
+    check(answer == -number && is(out, sizeof out, "A5 A5 A5 A5 A5 A5 A5"), fsq_refusal_name(answer), line);
+    check(fsq_list_repeat_at(&record, 0, &list, &other) == -number && memcmp(&report, &other, sizeof report) == 0 && list.count == 0, "of a list", line);
+    answer = fsq_form_repeat_at(&record, 0, &string, NULL);
+    check(question == 0 ? answer == -number : answer == 10 && fsq_line_question(&string) == question, "of a form", line);
+    return report;
+}
+
 /* REFERENCE 3. */
 static int well_formed(const fsq_operand_t *operand) {
     int kind = operand->bytes[0], size = operand->bytes[1], prefix = operand->bytes[2], displacement_size = operand->bytes[3];
@@ -136,8 +175,11 @@ static void numbers(void) {
     CHECK(is(at, 5, "78 56 34 12 A5") && fsq_get_i32(at) == 0x12345678);
     fsq_put_u16(at, 0xABCD);
     CHECK(is(at, 3, "CD AB 34"));
-    CHECK(FSQ_VERSION_MAJOR == 2 && FSQ_VERSION_MINOR >= 2);
-    CHECK(FSQ_MOST_RECORDS == 8000 && FSQ_SHORT_RECORDS == 1000 && FSQ_IMAGE_LENGTH == 56000 && FSQ_FILE_LENGTH == 448009);
+    CHECK(FSQ_VERSION_MAJOR == 2 && FSQ_VERSION_MINOR >= 3);
+    CHECK(FSQ_MOST_RECORDS == 8000 && FSQ_SHORT_RECORDS == 1000 && FSQ_IMAGE_LENGTH == 56000 && FSQ_FILE_LENGTH == 456009);
+    CHECK(FSQ_FILE_VERSION == 1 && FSQ_LONG_VERSION == 2 && FSQ_REPEAT_VERSION == 3 && FSQ_RECORD_LENGTH == 56 && FSQ_REPEAT_RECORD_LENGTH == 57);
+    CHECK(FSQ_REPEAT_NONE == 0 && FSQ_REPEAT_REPNE == 0xF2 && FSQ_REPEAT_REP == 0xF3 && FSQ_REPEAT_AT == 2 && FSQ_READ_REPEAT_AT == 5);
+    CHECK(FSQ_INVALID_REPEAT == 23 && sizeof(fsq_repeat_record_t) == 57);
     CHECK(sizeof(fsq_operand_t) == 23 && sizeof(fsq_record_t) == 56 && sizeof(fsq_report_t) == 28);
     CHECK(sizeof(fsq_reading_t) == 24 && sizeof(fsq_list_t) == 97 && sizeof(fsq_line_t) == 64);
 }
@@ -433,8 +475,10 @@ static int reads(const char *text, uint16_t offset, fsq_reading_t *reading) {
 }
 
 static void readings(void) {
+    static const char *const alone[] = {"F3", "F2", "F3 90", "F2 90", "F3 F3 A4", "F2 F3 A4", "F3 26 A4", "F3 F0 A4", "F3 0F", "F3 A3", "F3 A8", "F3 A9", "F3 B0"};
     fsq_reading_t r, kept;
     uint8_t byte = 0xC3;
+    size_t i;
     CHECK(reads("83 C0 05", 0, &r) == 3 && fsq_reading_length(&r) == 3 && fsq_reading_operation(&r) == FSQ_ADD);
     CHECK(fsq_reading_width(&r) == FSQ_WORD && fsq_reading_opcode(&r) == 0x83 && fsq_reading_extension(&r) == FSQ_EXTENSION_DIGIT + 0);
     CHECK(fsq_reading_kind(&r, 0) == FSQ_READ_REGISTER && fsq_reading_number(&r, 0) == FSQ_AX % 8);
@@ -461,8 +505,25 @@ static void readings(void) {
     CHECK(reads("D1 E0", 0, &r) == 2 && fsq_reading_kind(&r, 1) == FSQ_READ_ONE && fsq_reading_extension(&r) == FSQ_EXTENSION_DIGIT + 4);
     CHECK(reads("FF 17", 0, &r) == 2 && fsq_reading_width(&r) == FSQ_WORD && fsq_reading_extension(&r) == FSQ_EXTENSION_DIGIT + 2);
     CHECK(reads("FF 1F", 0, &r) == 2 && fsq_reading_width(&r) == FSQ_UNSPECIFIED);
-    CHECK(reads("F3 A4", 0, &r) == 1 && fsq_reading_operation(&r) == FSQ_REP);
-    CHECK(reads("F3 A4", 0, NULL) == 1);
+    CHECK(fsq_reading_repeat(&r) == FSQ_REPEAT_NONE && r.bytes[5] == 0);
+    /* Document 02, No. 11: what F2 and F3 stand before. */
+    CHECK(reads("F3 A4", 0, &r) == 2 && fsq_reading_operation(&r) == FSQ_MOVSB && fsq_reading_repeat(&r) == FSQ_REPEAT_REP && r.bytes[5] == 0xF3);
+    CHECK(fsq_reading_length(&r) == 2 && fsq_reading_opcode(&r) == 0xA4 && fsq_reading_extension(&r) == FSQ_EXTENSION_NONE && fsq_reading_width(&r) == FSQ_UNSPECIFIED);
+    CHECK(r.bytes[6] == 0 && r.bytes[7] == 0 && fsq_reading_kind(&r, 0) == FSQ_READ_NONE && fsq_reading_kind(&r, 1) == FSQ_READ_NONE);
+    CHECK(reads("F2 AE 90", 0, &r) == 2 && fsq_reading_operation(&r) == FSQ_SCASB && fsq_reading_repeat(&r) == FSQ_REPEAT_REPNE && fsq_reading_opcode(&r) == 0xAE);
+    CHECK(reads("F3 A4", 0, NULL) == 2 && reads("A4 A4", 0, &r) == 1 && fsq_reading_repeat(&r) == FSQ_REPEAT_NONE);
+    for (i = 0; i < sizeof alone / sizeof *alone; i++) {
+        CHECK(reads(alone[i], 0, &r) == 1 && fsq_reading_operation(&r) == (alone[i][1] == '3' ? FSQ_REP : FSQ_REPNE) && fsq_reading_repeat(&r) == FSQ_REPEAT_NONE);
+        CHECK(fsq_reading_opcode(&r) == (alone[i][1] == '3' ? 0xF3 : 0xF2) && r.bytes[5] == 0);
+    }
+    for (i = 0; i < 256; i++) {
+        uint8_t string[2] = {0xF3, (uint8_t) i};
+        int is_string = (i >= 0xA4 && i <= 0xA7) || (i >= 0xAA && i <= 0xAF);
+        CHECK(fsq_read_at(string, 2, 0, &r) == (is_string ? 2 : 1) && fsq_reading_repeat(&r) == (is_string ? FSQ_REPEAT_REP : FSQ_REPEAT_NONE));
+        string[0] = 0xF2;
+        CHECK(fsq_read_at(string, 2, 0, &r) == (is_string ? 2 : 1) && fsq_reading_repeat(&r) == (is_string ? FSQ_REPEAT_REPNE : FSQ_REPEAT_NONE));
+        CHECK(fsq_read_at(string, 1, 0, &r) == 1 && fsq_reading_operation(&r) == FSQ_REPNE);
+    }
     kept = r;
     CHECK(reads("26 8B C0", 0, &r) == -FSQ_NOT_AN_INSTRUCTION && reads("26", 0, &r) == -FSQ_NOT_COMPLETE);
     CHECK(reads("83 C0", 0, &r) == -FSQ_NOT_COMPLETE && reads("26 8B C0", 0, NULL) == -FSQ_NOT_AN_INSTRUCTION);
@@ -513,6 +574,8 @@ static void shows(void) {
     fsq_put_u16(file + FSQ_HEADER_VERSION_AT, 2);
     CHECK(fsq_load_show(file, 177, image, sizeof image, NULL) == -FSQ_WRONG_LENGTH);
     fsq_put_u16(file + FSQ_HEADER_VERSION_AT, 3);
+    CHECK(fsq_load_show(file, 177, image, sizeof image, NULL) == -FSQ_WRONG_LENGTH);
+    fsq_put_u16(file + FSQ_HEADER_VERSION_AT, 4);
     CHECK(fsq_load_show(file, 177, image, sizeof image, NULL) == -FSQ_WRONG_VERSION);
     CHECK(fsq_write_header(file, 9, 0, 0) == 9 && fsq_load_show(file, 9, NULL, 0, NULL) == 0);
     aam = fsq_none(FSQ_RET);
@@ -521,6 +584,9 @@ static void shows(void) {
     CHECK(fsq_load_show(file, 65, image, 1, NULL) == 1 && image[0] == 0xC3);
 }
 
+/* The longest file of version 2. */
+enum { LONG_FILE = 9 + 56 * 8000 };
+
 /* REFERENCE 8: version 1 has 0 to 1,000 records and version 2 1,001 to 8,000. The longest files of each, and what lies beside them. */
 static void long_shows(void) {
     static const struct { uint16_t count; const char *bytes; } headers[] = {
@@ -528,12 +594,12 @@ static void long_shows(void) {
     };
     static const struct { uint16_t version, count; int answer; } rows[] = {
         {1, 0, 0}, {1, 1000, 7000}, {1, 1001, -14}, {1, 8000, -14}, {1, 8001, -14}, {2, 0, -14}, {2, 1, -14}, {2, 1000, -14}, {2, 1001, 7007}, {2, 3200, 22400},
-        {2, 8000, 56000}, {2, 8001, -14}, {0, 0, -13}, {0, 1000, -13}, {3, 0, -13}, {3, 1000, -13}, {3, 1001, -13}, {3, 8000, -13}, {3, 8001, -13}, {257, 1000, -13},
-        {258, 1001, -13}
+        {2, 8000, 56000}, {2, 8001, -14}, {0, 0, -13}, {0, 1000, -13}, {3, 0, 0}, {3, 1, -14}, {3, 1000, -14}, {3, 1001, -14}, {3, 8000, -14}, {3, 8001, -14},
+        {4, 0, -13}, {4, 1000, -13}, {4, 8000, -13}, {5, 1, -13}, {257, 1000, -13}, {258, 1001, -13}, {259, 0, -13}
     };
     static const uint16_t refused_at[] = {999, 1000, 3199, 7999};
     /* A record and a byte more than the longest file, and a byte more than its image. */
-    static uint8_t file[FSQ_FILE_LENGTH + FSQ_RECORD_LENGTH + 1], image[FSQ_IMAGE_LENGTH + 1], expected[FSQ_IMAGE_LENGTH], untouched[FSQ_IMAGE_LENGTH + 1];
+    static uint8_t file[LONG_FILE + 56 + 1], image[FSQ_IMAGE_LENGTH + 1], expected[FSQ_IMAGE_LENGTH], untouched[FSQ_IMAGE_LENGTH + 1];
     fsq_record_t mov = fsq_two(FSQ_MOV, fsq_with_segment(fsq_mem(FSQ_WORD, FSQ_BASE_BX, 4660), FSQ_ES), fsq_imm(22136));
     fsq_record_t push = fsq_one(FSQ_PUSH, fsq_with_span(fsq_reg(FSQ_AL), 3, 7)), unknown = mov;
     fsq_report_t report;
@@ -547,9 +613,9 @@ static void long_shows(void) {
     for (i = 0; i < sizeof expected; i += 7)
         memcpy(expected + i, "\x26\xC7\x87\x34\x12\x78\x56", 7);
     for (number = 0; number < 8000; number++)
-        CHECK(fsq_write_record(file, FSQ_FILE_LENGTH, number, &mov) == 9 + 56 * (number + 1));
-    CHECK(fsq_write_record(file, sizeof file, 8000, &mov) == -FSQ_WRONG_LENGTH && file[FSQ_FILE_LENGTH] == 0);
-    memcpy(file + FSQ_FILE_LENGTH, mov.bytes, sizeof mov.bytes);
+        CHECK(fsq_write_record(file, LONG_FILE, number, &mov) == 9 + 56 * (number + 1));
+    CHECK(fsq_write_record(file, sizeof file, 8000, &mov) == -FSQ_WRONG_LENGTH && file[LONG_FILE] == 0);
+    memcpy(file + LONG_FILE, mov.bytes, sizeof mov.bytes);
     for (i = 0; i < sizeof rows / sizeof *rows; i++) {
         size_t written = rows[i].answer < 0 ? 0 : (size_t) rows[i].answer;
         length = 9 + 56 * (size_t) rows[i].count;
@@ -573,12 +639,262 @@ static void long_shows(void) {
     CHECK(fsq_write_header(file, 9, 0, 8000) == 9);
     unknown.bytes[FSQ_OPERATION_AT] = 99;
     for (i = sizeof refused_at / sizeof *refused_at; i-- > 0;) {
-        CHECK(fsq_write_record(file, FSQ_FILE_LENGTH, refused_at[i], &push) == 9 + 56 * (refused_at[i] + 1));
-        CHECK(fsq_load_show(file, FSQ_FILE_LENGTH, image, sizeof image, &report) == -FSQ_INVALID_OPERANDS && fsq_report_record(&report) == refused_at[i]);
+        CHECK(fsq_write_record(file, LONG_FILE, refused_at[i], &push) == 9 + 56 * (refused_at[i] + 1));
+        CHECK(fsq_load_show(file, LONG_FILE, image, sizeof image, &report) == -FSQ_INVALID_OPERANDS && fsq_report_record(&report) == refused_at[i]);
         CHECK(fsq_report_span_start(&report) == 3 && fsq_report_span_end(&report) == 7);
     }
     for (i = sizeof refused_at / sizeof *refused_at; i-- > 0;) {
-        CHECK(fsq_write_record(file, FSQ_FILE_LENGTH, refused_at[i], &unknown) == 9 + 56 * (refused_at[i] + 1));
+        CHECK(fsq_write_record(file, LONG_FILE, refused_at[i], &unknown) == 9 + 56 * (refused_at[i] + 1));
+        CHECK(fsq_load_show(file, LONG_FILE, image, sizeof image, &report) == -FSQ_UNKNOWN_CODE && fsq_report_record(&report) == refused_at[i]);
+    }
+}
+
+/* Document 02, No. 11: a repeat before each string operation, by the SDM's opcodes; the records that take none, and the order of the questions. */
+static void repeats(void) {
+    static const struct { enum fsq_operation operation; const char *bytes[3], *form; } rows[] = {
+        {FSQ_MOVSB, {"A4", "F2 A4", "F3 A4"}, "form A4 -"}, {FSQ_MOVSW, {"A5", "F2 A5", "F3 A5"}, "form A5 -"}, {FSQ_CMPSB, {"A6", "F2 A6", "F3 A6"}, "form A6 -"},
+        {FSQ_CMPSW, {"A7", "F2 A7", "F3 A7"}, "form A7 -"}, {FSQ_STOSB, {"AA", "F2 AA", "F3 AA"}, "form AA -"}, {FSQ_STOSW, {"AB", "F2 AB", "F3 AB"}, "form AB -"},
+        {FSQ_LODSB, {"AC", "F2 AC", "F3 AC"}, "form AC -"}, {FSQ_LODSW, {"AD", "F2 AD", "F3 AD"}, "form AD -"}, {FSQ_SCASB, {"AE", "F2 AE", "F3 AE"}, "form AE -"},
+        {FSQ_SCASW, {"AF", "F2 AF", "F3 AF"}, "form AF -"}
+    };
+    static const enum fsq_repeat both[] = {FSQ_REPEAT_NONE, FSQ_REPEAT_REPNE, FSQ_REPEAT_REP};
+    fsq_record_t movsb = fsq_record_with_span(fsq_none(FSQ_MOVSB), 3, 9), esc = fsq_record_with_span(fsq_none(FSQ_ESC), 2, 5);
+    fsq_record_t mov = fsq_record_with_span(fsq_two(FSQ_MOV, fsq_with_span(fsq_reg(FSQ_AL), 4, 6), fsq_with_span(fsq_imm(300), 7, 10)), 0, 10);
+    fsq_record_t nop = fsq_none(FSQ_NOP);
+    fsq_repeat_record_t record = fsq_with_repeat(movsb, FSQ_REPEAT_REP), longer = record;
+    fsq_report_t report;
+    fsq_list_t list;
+    fsq_line_t line;
+    uint8_t out[FSQ_STRING_LENGTH], bytes[60] = {0};
+    size_t i, k;
+    int n;
+
+    /* The bytes of REFERENCE 8: behind the repeat all stands a byte further. */
+    CHECK(is(record.bytes, 11, "30 00 F3 03 00 00 00 09 00 00 00") && memcmp(record.bytes + 11, movsb.bytes + 10, 46) == 0);
+    record = fsq_with_repeat(mov, FSQ_REPEAT_REPNE);
+    CHECK(is(record.bytes, 11, "00 02 F2 00 00 00 00 0A 00 00 00") && memcmp(record.bytes + 11, mov.bytes + 10, 46) == 0);
+    record = fsq_with_repeat(mov, FSQ_REPEAT_NONE);
+    CHECK(is(record.bytes, 3, "00 02 00") && memcmp(record.bytes + 3, mov.bytes + 2, 54) == 0);
+    for (n = LEAST; n <= REPEATS; n++) {
+        int known = n == 0 || n == 0xF2 || n == 0xF3;
+        record = fsq_with_repeat(movsb, (enum fsq_repeat) n);
+        CHECK(record.bytes[2] == (known ? n : 255));
+        CHECK((fsq_encode_repeat_at(&record, 0, out, sizeof out, NULL) == -FSQ_INVALID_REPEAT) == !known);
+    }
+
+    for (i = 0; i < sizeof rows / sizeof *rows; i++)
+        for (k = 0; k < 3; k++)
+            REPEAT(fsq_with_repeat(fsq_none(rows[i].operation), both[k]), 65535, rows[i].bytes[k], rows[i].form);
+    REPEAT(fsq_with_repeat(fsq_none(FSQ_REP), FSQ_REPEAT_NONE), 0, "F3", "form F3 -");
+    REPEAT(fsq_with_repeat(fsq_none(FSQ_REPNE), FSQ_REPEAT_NONE), 0, "F2", "form F2 -");
+    REPEAT(fsq_with_repeat(fsq_none(FSQ_LOCK), FSQ_REPEAT_NONE), 0, "F0", "form F0 -");
+    ENCODES(fsq_none(FSQ_REP), 0, "F3");
+    ENCODES(fsq_none(FSQ_MOVSB), 0, "A4");
+
+    /* Every number that is no repeat, and both repeats before every other operation: 23 with the instruction's span and no values, by question 1. */
+    for (n = 1; n < 256; n++) {
+        record = fsq_with_repeat(movsb, FSQ_REPEAT_NONE);
+        record.bytes[FSQ_REPEAT_AT] = (uint8_t) n;
+        if (n != 0xF2 && n != 0xF3) {
+            report = REPEAT_REFUSED(record, FSQ_INVALID_REPEAT, 1);
+            CHECK(fsq_report_span_start(&report) == 3 && fsq_report_span_end(&report) == 9 && fsq_report_record(&report) == FSQ_NO_RECORD);
+            CHECK(fsq_report_value(&report) == 0 && fsq_report_low(&report) == 0 && fsq_report_high(&report) == 0 && fsq_report_length(&report) == 0);
+        }
+    }
+    for (n = 0; n <= 98; n++)
+        for (k = 1; k < 3; k++) {
+            record = fsq_with_repeat(fsq_none((enum fsq_operation) n), both[k]);
+            if (n < FSQ_MOVSB || n > FSQ_STOSW)
+                REPEAT_REFUSED(record, FSQ_INVALID_REPEAT, 1);
+            else
+                CHECK(fsq_encode_repeat_at(&record, 0, out, sizeof out, NULL) == 2 && out[0] == (uint8_t) both[k]);
+        }
+
+    /* Behind count and operands (8), before question 2 (7) and the later ones; an unknown code (15) stands before all. */
+    report = REPEAT_REFUSED(fsq_with_repeat(esc, FSQ_REPEAT_REP), FSQ_INVALID_REPEAT, 1);
+    CHECK(fsq_report_span_start(&report) == 2 && fsq_report_span_end(&report) == 5);
+    REPEAT_REFUSED(fsq_with_repeat(esc, FSQ_REPEAT_NONE), FSQ_NOT_SUPPORTED, 2);
+    report = REPEAT_REFUSED(fsq_with_repeat(mov, FSQ_REPEAT_REP), FSQ_INVALID_REPEAT, 1);
+    CHECK(fsq_report_span_start(&report) == 0 && fsq_report_span_end(&report) == 10 && fsq_report_value(&report) == 0);
+    report = REPEAT_REFUSED(fsq_with_repeat(mov, FSQ_REPEAT_NONE), FSQ_IMMEDIATE_OUT_OF_RANGE, 6);
+    CHECK(fsq_report_span_start(&report) == 7 && fsq_report_span_end(&report) == 10 && fsq_report_value(&report) == 300);
+    REPEAT_REFUSED(fsq_with_repeat(fsq_one(FSQ_PUSH, fsq_reg(FSQ_AL)), FSQ_REPEAT_REPNE), FSQ_INVALID_REPEAT, 1);
+    REPEAT_REFUSED(fsq_with_repeat(fsq_one(FSQ_JE, fsq_imm(130)), FSQ_REPEAT_REPNE), FSQ_INVALID_REPEAT, 1);
+    for (k = 0; k < 2; k++) {
+        record = fsq_with_repeat(k == 0 ? nop : movsb, FSQ_REPEAT_REP);
+        record.bytes[FSQ_REPEAT_AT] = k == 0 ? 0xF3 : 0xF0;
+        REPEAT_REFUSED(record, FSQ_INVALID_REPEAT, 1);
+        record.bytes[FSQ_COUNT_AT] = 3;
+        REPEAT_REFUSED(record, FSQ_NOT_WELL_FORMED, 1);
+        record.bytes[FSQ_COUNT_AT] = 0;
+        record.bytes[11 + FSQ_MODE_AT] = 2;
+        REPEAT_REFUSED(record, FSQ_NOT_WELL_FORMED, 1);
+        record.bytes[11 + FSQ_MODE_AT] = 0;
+        record.bytes[34 + FSQ_MODE_AT] = 2;
+        REPEAT_REFUSED(record, FSQ_NOT_WELL_FORMED, 1);
+        record.bytes[34 + FSQ_KIND_AT] = 4;
+        REPEAT_REFUSED(record, FSQ_UNKNOWN_CODE, 0);
+    }
+    CHECK(fsq_encode_repeat_at(&longer, 0, out, 1, &report) == -FSQ_SLICE_TOO_SHORT && fsq_report_span_start(&report) == 3);
+    longer.bytes[FSQ_REPEAT_AT] = 99;
+    CHECK(fsq_encode_repeat_at(&longer, 0, out, 1, NULL) == -FSQ_INVALID_REPEAT);
+
+    /* The length says whether a record has a repeat; 55 and 58 bytes are none. */
+    record = fsq_with_repeat(fsq_none(FSQ_MOVSB), FSQ_REPEAT_REP);
+    memcpy(bytes, record.bytes, sizeof record.bytes);
+    for (i = 0; i <= sizeof bytes; i++) {
+        n = fsq_encode_bytes_at(bytes, i, 0, out, sizeof out, NULL);
+        CHECK(n == (i == 56 ? 1 : i == 57 ? 2 : -FSQ_WRONG_LENGTH));
+        CHECK(fsq_list_bytes_at(bytes, i, 0, &list, NULL) == (i == 56 || i == 57 ? 1 : -FSQ_WRONG_LENGTH));
+        CHECK(fsq_form_bytes_at(bytes, i, 0, &line, NULL) == (i == 56 || i == 57 ? 9 : -FSQ_WRONG_LENGTH));
+    }
+    CHECK(fsq_encode_repeat_at(NULL, 0, out, sizeof out, NULL) == -FSQ_WRONG_LENGTH && fsq_list_repeat_at(NULL, 0, &list, NULL) == -FSQ_WRONG_LENGTH);
+    CHECK(fsq_form_repeat_at(NULL, 0, &line, NULL) == -FSQ_WRONG_LENGTH && fsq_encode_bytes_at(NULL, 57, 0, out, sizeof out, NULL) == -FSQ_WRONG_LENGTH);
+    CHECK(fsq_list_bytes_at(NULL, 57, 0, &list, NULL) == -FSQ_WRONG_LENGTH && fsq_form_bytes_at(NULL, 57, 0, &line, NULL) == -FSQ_WRONG_LENGTH);
+}
+
+/* A show of MOV CX,4660; REP MOVSB; AAM; REPNE SCASB; LOOP 256 at origin 256, and the bytes of each by the SDM: B9, F3 A4, D4 0A, F2 AE, E2. */
+static void repeat_shows(void) {
+    fsq_repeat_record_t records[5], plain[2];
+    uint8_t file[9 + 5 * 57 + 1], image[13], untouched[sizeof file];
+    fsq_report_t report;
+    uint16_t i;
+    records[0] = fsq_with_repeat(fsq_two(FSQ_MOV, fsq_reg(FSQ_CX), fsq_imm(4660)), FSQ_REPEAT_NONE);
+    records[1] = fsq_with_repeat(fsq_record_with_span(fsq_none(FSQ_MOVSB), 3, 9), FSQ_REPEAT_REP);
+    records[2] = fsq_with_repeat(fsq_none(FSQ_AAM), FSQ_REPEAT_NONE);
+    records[3] = fsq_with_repeat(fsq_none(FSQ_SCASB), FSQ_REPEAT_REPNE);
+    records[4] = fsq_with_repeat(fsq_one(FSQ_LOOP, fsq_imm(256)), FSQ_REPEAT_NONE);
+    plain[0] = records[0];
+    plain[1] = records[2];
+    memset(untouched, 0xA5, sizeof untouched);
+    memset(file, 0xA5, sizeof file);
+    memset(image, 0xA5, sizeof image);
+
+    /* In one call, and piece by piece. */
+    CHECK(fsq_write_show(file, sizeof file, 256, records, 5) == 294 && is(file, 13, "46 53 51 03 00 00 01 05 00 00 02 00 00") && file[294] == 0xA5);
+    for (i = 0; i < 5; i++)
+        CHECK(memcmp(file + 9 + 57 * i, records[i].bytes, 57) == 0);
+    CHECK(fsq_load_show(file, 294, image, sizeof image, &report) == 11 && is(image, 13, "B9 34 12 F3 A4 D4 0A F2 AE E2 F5 A5 A5"));
+    CHECK(fsq_report_length(&report) == 11 && fsq_report_record(&report) == FSQ_NO_RECORD);
+    CHECK(fsq_load_show(file, 294, image, 10, &report) == -FSQ_SLICE_TOO_SHORT && fsq_report_record(&report) == 4);
+    CHECK(fsq_load_show(file, 294, image, 4, &report) == -FSQ_SLICE_TOO_SHORT && fsq_report_record(&report) == 1 && fsq_report_span_end(&report) == 9);
+    CHECK(fsq_load_show(file, 293, image, sizeof image, NULL) == -FSQ_WRONG_LENGTH && fsq_load_show(file, 295, image, sizeof image, NULL) == -FSQ_WRONG_LENGTH);
+    memcpy(untouched, file, sizeof file);
+    memset(file, 0xA5, sizeof file);
+    CHECK(fsq_write_repeat_header(file, sizeof file, 256, 5) == 9 && is(file, 10, "46 53 51 03 00 00 01 05 00 A5"));
+    for (i = 0; i < 5; i++)
+        CHECK(fsq_write_repeat_record(file, sizeof file, i, &records[i]) == 9 + 57 * (i + 1));
+    CHECK(memcmp(file, untouched, sizeof file) == 0);
+
+    /* A repeat that is none is 23 with its record, 15 of a later one before it, and 15 itself never. */
+    file[9 + 57 + FSQ_REPEAT_AT] = 99;
+    CHECK(fsq_load_show(file, 294, image, sizeof image, &report) == -FSQ_INVALID_REPEAT && fsq_report_record(&report) == 1);
+    CHECK(fsq_report_span_start(&report) == 3 && fsq_report_span_end(&report) == 9 && fsq_report_value(&report) == 0 && fsq_report_length(&report) == 0);
+    CHECK(fsq_load_show(file, 294, image, 0, &report) == -FSQ_INVALID_REPEAT);
+    file[9 + 3 * 57 + FSQ_REPEAT_AT] = 0xFF;
+    CHECK(fsq_load_show(file, 294, image, sizeof image, &report) == -FSQ_INVALID_REPEAT && fsq_report_record(&report) == 1);
+    file[9 + 4 * 57 + 34 + FSQ_KIND_AT] = 4;
+    CHECK(fsq_load_show(file, 294, image, sizeof image, &report) == -FSQ_UNKNOWN_CODE && fsq_report_record(&report) == 4);
+    file[9 + 4 * 57 + 34 + FSQ_KIND_AT] = 0;
+    file[9 + FSQ_OPERATION_AT] = FSQ_ESC;
+    CHECK(fsq_load_show(file, 294, image, sizeof image, &report) == -FSQ_NOT_SUPPORTED && fsq_report_record(&report) == 0);
+    file[9 + FSQ_REPEAT_AT] = 0xF3;
+    CHECK(fsq_load_show(file, 294, image, sizeof image, &report) == -FSQ_INVALID_REPEAT && fsq_report_record(&report) == 0);
+
+    /* Without a repeat the file is of version 1, with records of 56 bytes; one repeat makes it version 3, wherever it stands. */
+    memset(file, 0xA5, sizeof file);
+    CHECK(fsq_write_show(file, sizeof file, 4660, plain, 2) == 121 && is(file, 13, "46 53 51 01 00 34 12 02 00 00 02 00 00") && file[121] == 0xA5);
+    CHECK(memcmp(file + 11, plain[0].bytes + 3, 54) == 0 && memcmp(file + 67, plain[1].bytes + 3, 54) == 0 && file[65] == FSQ_AAM && file[66] == 0);
+    CHECK(fsq_load_show(file, 121, image, sizeof image, NULL) == 5 && is(image, 5, "B9 34 12 D4 0A"));
+    for (i = 0; i < 2; i++) {
+        plain[i] = fsq_with_repeat(fsq_none(FSQ_STOSW), FSQ_REPEAT_REP);
+        CHECK(fsq_write_show(file, sizeof file, 0, plain, 2) == 123 && file[FSQ_HEADER_VERSION_AT] == 3);
+        plain[i] = records[2];
+    }
+    plain[1].bytes[FSQ_REPEAT_AT] = 1;
+    CHECK(fsq_write_show(file, sizeof file, 0, plain, 2) == 123 && fsq_load_show(file, 123, image, sizeof image, NULL) == -FSQ_INVALID_REPEAT);
+
+    /* What is not written. */
+    memset(file, 0xA5, sizeof file);
+    memset(untouched, 0xA5, sizeof untouched);
+    CHECK(fsq_write_show(file, 293, 256, records, 5) == -FSQ_SLICE_TOO_SHORT && fsq_write_show(NULL, 294, 256, records, 5) == -FSQ_SLICE_TOO_SHORT);
+    CHECK(fsq_write_show(file, sizeof file, 256, NULL, 1) == -FSQ_WRONG_LENGTH && fsq_write_show(file, sizeof file, 256, records, 8001) == -FSQ_WRONG_LENGTH);
+    CHECK(fsq_write_show(file, 8, 256, NULL, 0) == -FSQ_SLICE_TOO_SHORT && fsq_write_show(file, sizeof file, 256, records, 65537) == -FSQ_WRONG_LENGTH);
+    CHECK(fsq_write_repeat_header(file, 8, 256, 3) == -FSQ_SLICE_TOO_SHORT && fsq_write_repeat_header(NULL, 9, 256, 3) == -FSQ_SLICE_TOO_SHORT);
+    CHECK(fsq_write_repeat_header(file, 9, 256, 8001) == -FSQ_WRONG_LENGTH && fsq_write_repeat_header(NULL, 0, 256, 8001) == -FSQ_WRONG_LENGTH);
+    CHECK(fsq_write_repeat_record(file, 65, 0, records) == -FSQ_SLICE_TOO_SHORT && fsq_write_repeat_record(NULL, 66, 0, records) == -FSQ_SLICE_TOO_SHORT);
+    CHECK(fsq_write_repeat_record(file, sizeof file, 5, records) == -FSQ_SLICE_TOO_SHORT && fsq_write_repeat_record(file, sizeof file, 7999, records) == -FSQ_SLICE_TOO_SHORT);
+    CHECK(fsq_write_repeat_record(file, sizeof file, 8000, records) == -FSQ_WRONG_LENGTH && fsq_write_repeat_record(file, 66, 0, NULL) == -FSQ_WRONG_LENGTH);
+    CHECK(memcmp(file, untouched, sizeof file) == 0);
+    CHECK(fsq_write_show(file, 9, 4660, NULL, 0) == 9 && is(file, 10, "46 53 51 01 00 34 12 00 00 A5") && fsq_load_show(file, 9, NULL, 0, NULL) == 0);
+}
+
+/* Version 3 has 0 to 8,000 records of 57 bytes, all of whose repeats may be 0; the longest file, what lies beside it, and what other versions say to it. */
+static void long_repeat_shows(void) {
+    static const struct { uint16_t version, count; int answer; } rows[] = {
+        {3, 0, 0}, {3, 1, 2}, {3, 1000, 2000}, {3, 1001, 2002}, {3, 7999, 15998}, {3, 8000, 16000}, {3, 8001, -14}, {1, 0, 0}, {1, 1, -14}, {1, 1000, -14}, {1, 8000, -14},
+        {2, 1, -14}, {2, 1001, -14}, {2, 8000, -14}, {0, 1, -13}, {4, 0, -13}, {4, 1, -13}, {4, 8000, -13}, {5, 8000, -13}, {259, 1, -13}, {771, 1, -13}
+    };
+    static const uint16_t refused_at[] = {0, 999, 1000, 7999};
+    static fsq_repeat_record_t records[8001];
+    static uint8_t file[FSQ_FILE_LENGTH + FSQ_REPEAT_RECORD_LENGTH], again[FSQ_FILE_LENGTH], image[FSQ_IMAGE_LENGTH + 1], expected[FSQ_IMAGE_LENGTH], untouched[FSQ_IMAGE_LENGTH + 1];
+    fsq_repeat_record_t stosw = fsq_with_repeat(fsq_none(FSQ_STOSW), FSQ_REPEAT_REP), wrong = fsq_with_repeat(fsq_record_with_span(fsq_none(FSQ_NOP), 3, 7), FSQ_REPEAT_REP);
+    fsq_repeat_record_t mov = fsq_with_repeat(fsq_two(FSQ_MOV, fsq_with_segment(fsq_mem(FSQ_WORD, FSQ_BASE_BX, 4660), FSQ_ES), fsq_imm(22136)), FSQ_REPEAT_NONE), unknown = mov;
+    fsq_report_t report;
+    size_t i, length;
+    uint16_t number;
+    for (i = 0; i < 8001; i++)
+        records[i] = stosw;
+    for (i = 0; i < sizeof expected; i += 2)
+        memcpy(expected + i, "\xF3\xAB", 2);
+    memset(untouched, 0xA5, sizeof untouched);
+    CHECK(fsq_write_show(file, sizeof file, 0, records, 8000) == FSQ_FILE_LENGTH && fsq_write_show(file, FSQ_FILE_LENGTH - 1, 0, records, 8000) == -FSQ_SLICE_TOO_SHORT);
+    CHECK(fsq_write_repeat_header(again, sizeof again, 0, 8000) == 9);
+    for (number = 0; number < 8000; number++)
+        CHECK(fsq_write_repeat_record(again, sizeof again, number, &stosw) == 9 + 57 * (number + 1));
+    CHECK(memcmp(file, again, sizeof again) == 0 && fsq_write_show(file, sizeof file, 0, records, 8001) == -FSQ_WRONG_LENGTH && file[FSQ_FILE_LENGTH] == 0);
+    memcpy(file + FSQ_FILE_LENGTH, stosw.bytes, sizeof stosw.bytes);
+    for (i = 0; i < sizeof rows / sizeof *rows; i++) {
+        size_t written = rows[i].answer < 0 ? 0 : (size_t) rows[i].answer;
+        length = 9 + 57 * (size_t) rows[i].count;
+        fsq_put_u16(file + FSQ_HEADER_VERSION_AT, rows[i].version);
+        fsq_put_u16(file + FSQ_HEADER_COUNT_AT, rows[i].count);
+        memset(image, 0xA5, sizeof image);
+        CHECK(fsq_load_show(file, length, image, sizeof image, &report) == rows[i].answer);
+        CHECK(fsq_report_length(&report) == written && fsq_report_record(&report) == FSQ_NO_RECORD);
+        CHECK(memcmp(image, expected, written) == 0 && memcmp(image + written, untouched, sizeof image - written) == 0);
+        if (written != 0) {
+            CHECK(fsq_load_show(file, length, image, written - 1, &report) == -FSQ_SLICE_TOO_SHORT && fsq_report_record(&report) + 1 == rows[i].count);
+            CHECK(fsq_load_show(file, length - 1, image, sizeof image, NULL) == -FSQ_WRONG_LENGTH);
+            CHECK(fsq_load_show(file, length + 1, image, sizeof image, NULL) == -FSQ_WRONG_LENGTH);
+        }
+    }
+
+    /* Without a repeat the same call writes version 2 above 1,000, and version 1 up to there. */
+    for (i = 0; i < 8001; i++)
+        records[i] = mov;
+    for (i = 0; i < sizeof expected; i += 7)
+        memcpy(expected + i, "\x26\xC7\x87\x34\x12\x78\x56", 7);
+    CHECK(fsq_write_show(file, sizeof file, 0, records, 8000) == LONG_FILE && file[FSQ_HEADER_VERSION_AT] == 2);
+    CHECK(fsq_load_show(file, LONG_FILE, image, sizeof image, NULL) == FSQ_IMAGE_LENGTH && memcmp(image, expected, sizeof expected) == 0);
+    CHECK(fsq_write_show(file, sizeof file, 0, records, 1001) == 9 + 56 * 1001 && file[FSQ_HEADER_VERSION_AT] == 2);
+    CHECK(fsq_write_show(file, sizeof file, 0, records, 1000) == 9 + 56 * 1000 && file[FSQ_HEADER_VERSION_AT] == 1);
+    /* As version 3 with all repeats 0 they give the same, the longest image. */
+    CHECK(fsq_write_repeat_header(file, sizeof file, 0, 8000) == 9);
+    for (number = 0; number < 8000; number++)
+        (void) fsq_write_repeat_record(file, sizeof file, number, &mov);
+    memset(image, 0xA5, sizeof image);
+    CHECK(fsq_load_show(file, FSQ_FILE_LENGTH, image, sizeof image, NULL) == FSQ_IMAGE_LENGTH && memcmp(image, expected, sizeof expected) == 0 && image[FSQ_IMAGE_LENGTH] == 0xA5);
+
+    /* The first refused record, and before it the first with an unknown code. */
+    unknown.bytes[FSQ_OPERATION_AT] = 99;
+    for (i = sizeof refused_at / sizeof *refused_at; i-- > 0;) {
+        CHECK(fsq_write_repeat_record(file, FSQ_FILE_LENGTH, refused_at[i], &wrong) == 9 + 57 * (refused_at[i] + 1));
+        CHECK(fsq_load_show(file, FSQ_FILE_LENGTH, image, sizeof image, &report) == -FSQ_INVALID_REPEAT && fsq_report_record(&report) == refused_at[i]);
+        CHECK(fsq_report_span_start(&report) == 3 && fsq_report_span_end(&report) == 7);
+    }
+    for (i = sizeof refused_at / sizeof *refused_at; i-- > 0;) {
+        CHECK(fsq_write_repeat_record(file, FSQ_FILE_LENGTH, refused_at[i], &unknown) == 9 + 57 * (refused_at[i] + 1));
         CHECK(fsq_load_show(file, FSQ_FILE_LENGTH, image, sizeof image, &report) == -FSQ_UNKNOWN_CODE && fsq_report_record(&report) == refused_at[i]);
     }
 }
@@ -604,20 +920,25 @@ static void names(void) {
         "No instruction begins with these bytes.",
         "The bytes are the front of an instruction, and more are needed.",
         "The file does not begin with \"FSQ\".",
-        "The file's version is neither 1 nor 2.",
-        "The file is not as long as its count says, its version does not take this count, or a record has not 56 bytes.",
-        "A record has an operation, kind, size or jump kind that does not exist.",
-        "This header does not know the refusal."
+        "The file's version is not 1, 2 or 3.",
+        "The file is not as long as its count says, its version does not take this count, or a record has not 56 or 57 bytes.",
+        "A record has an operation, kind, size or jump kind that does not exist."
     };
     int number = 0, i;
     REFUSAL(DONE); REFUSAL(INVALID_OPERANDS); REFUSAL(OPERAND_SIZE_NOT_SPECIFIED); REFUSAL(OPERAND_SIZES_DO_NOT_MATCH);
     REFUSAL(INVALID_OPERAND_SIZE); REFUSAL(IMMEDIATE_OUT_OF_RANGE); REFUSAL(RELATIVE_JUMP_OUT_OF_RANGE); REFUSAL(NOT_SUPPORTED);
     REFUSAL(NOT_WELL_FORMED); REFUSAL(SLICE_TOO_SHORT); REFUSAL(NOT_AN_INSTRUCTION); REFUSAL(NOT_COMPLETE); REFUSAL(NO_MARK);
-    REFUSAL(WRONG_VERSION); REFUSAL(WRONG_LENGTH); REFUSAL(UNKNOWN_CODE);
+    REFUSAL(WRONG_VERSION); REFUSAL(WRONG_LENGTH); REFUSAL(UNKNOWN_CODE); REFUSAL(INVALID_REPEAT);
     CHECK(strcmp(fsq_refusal_name(7), "DONE") == 0 && strcmp(fsq_refusal_name(56000), "DONE") == 0);
-    CHECK(strcmp(fsq_refusal_name(-16), "UNKNOWN") == 0 && strcmp(fsq_refusal_name(-2147483647 - 1), "UNKNOWN") == 0);
-    for (i = 0; i <= 16; i++)
+    for (i = 0; i <= 15; i++)
         CHECK(strcmp(fsq_refusal_sentence(-i), sentences[i]) == 0);
+    CHECK(strcmp(fsq_refusal_sentence(-23), "The repeat is neither REP nor REPNE, or the operation takes none.") == 0);
+    /* 16 to 22 are no refusals of this library, and nothing is above 23. */
+    for (i = 16; i <= 260; i++) {
+        CHECK((strcmp(fsq_refusal_name(-i), "UNKNOWN") == 0) == (i != 23));
+        CHECK((strcmp(fsq_refusal_sentence(-i), "This header does not know the refusal.") == 0) == (i != 23));
+    }
+    CHECK(strcmp(fsq_refusal_name(-2147483647 - 1), "UNKNOWN") == 0);
     CHECK(fsq_refusal_sentence(7) == fsq_refusal_sentence(0) && fsq_refusal_sentence(-2147483647 - 1) == fsq_refusal_sentence(-16));
 #include "operations.h"
     CHECK(number == 99);
@@ -635,6 +956,9 @@ int main(void) {
     readings();
     shows();
     long_shows();
+    repeats();
+    repeat_shows();
+    long_repeat_shows();
     names();
     printf("header: %d checks, %d failed\n", checks, failures);
     return failures != 0;

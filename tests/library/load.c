@@ -1,6 +1,6 @@
 /* load SHOW IMAGE..: loads each show file and compares the whole image with the one that it has to give (tests/shows/make.py --long): into a slice of its
  * length, into a longer one, whose later bytes stay, and into one of a byte less, which names the last record. Then the file as it may not be: a byte shorter
- * or longer, of the other version, of a third one. */
+ * or longer, of another version, of one that there is not, with a wrong repeat. */
 #include "fsq.h"
 #include <stdio.h>
 #include <stdlib.h>
@@ -34,18 +34,36 @@ static int refused(size_t length, size_t image_len, fsq_report_t *report) {
     return memcmp(image, untouched, sizeof image) == 0 ? answer : 0;
 }
 
+/* 23 for a repeat of 99 in the last record, then for REP before the first that is no string operation. */
+static void wrong_repeats(const char *path, size_t length, uint16_t count) {
+    uint8_t *last = file + length - FSQ_REPEAT_RECORD_LENGTH, *first = file + FSQ_HEADER_LENGTH;
+    fsq_report_t report;
+    uint32_t k = 0;
+    memset(image, LENT, sizeof image);
+    last[FSQ_REPEAT_AT] = 99;
+    check(refused(length, sizeof image, &report) == -FSQ_INVALID_REPEAT && fsq_report_record(&report) + 1 == count, path, "another answer to the repeat 99");
+    while (first[FSQ_OPERATION_AT] >= FSQ_MOVSB && first[FSQ_OPERATION_AT] <= FSQ_STOSW) {
+        first += FSQ_REPEAT_RECORD_LENGTH;
+        k++;
+    }
+    first[FSQ_REPEAT_AT] = FSQ_REPEAT_REP;
+    check(refused(length, sizeof image, &report) == -FSQ_INVALID_REPEAT && fsq_report_record(&report) == k, path, "another answer to REP before another operation");
+}
+
 static void load(const char *path, const char *image_path) {
     size_t length = contents(path, file, sizeof file), n = contents(image_path, expected, sizeof expected);
     uint16_t count = fsq_get_u16(file + FSQ_HEADER_COUNT_AT), version = fsq_get_u16(file + FSQ_HEADER_VERSION_AT);
+    uint16_t other;
     fsq_report_t report;
     memset(image, LENT, sizeof image);
     check(refused(length, n - 1, &report) == -FSQ_SLICE_TOO_SHORT && fsq_report_record(&report) + 1 == count, path, "another answer to an image slice of a byte less");
     check(refused(length - 1, sizeof image, NULL) == -FSQ_WRONG_LENGTH, path, "another answer to a file of a byte less");
     check(refused(length + 1, sizeof image, NULL) == -FSQ_WRONG_LENGTH, path, "another answer to a file of a byte more");
-    fsq_put_u16(file + FSQ_HEADER_VERSION_AT, (uint16_t) (3 - version));
-    check(refused(length, sizeof image, NULL) == -FSQ_WRONG_LENGTH, path, "another answer to the other version");
-    fsq_put_u16(file + FSQ_HEADER_VERSION_AT, 3);
-    check(refused(length, sizeof image, NULL) == -FSQ_WRONG_VERSION, path, "another answer to version 3");
+    for (other = 0; other <= 5; other++)
+        if (other != version) {
+            fsq_put_u16(file + FSQ_HEADER_VERSION_AT, other);
+            check(refused(length, sizeof image, NULL) == (other >= 1 && other <= 3 ? -FSQ_WRONG_LENGTH : -FSQ_WRONG_VERSION), path, "another answer to another version");
+        }
     fsq_put_u16(file + FSQ_HEADER_VERSION_AT, version);
     check(fsq_load_show(file, length, image, sizeof image, &report) == (int) n && fsq_report_length(&report) == n, path, "another length");
     check(memcmp(image, expected, n) == 0, path, "another image");
@@ -53,6 +71,8 @@ static void load(const char *path, const char *image_path) {
     memset(image, LENT, sizeof image);
     check(fsq_load_show(file, length, image, n, NULL) == (int) n && memcmp(image, expected, n) == 0, path, "another image in a slice of its length");
     check(memcmp(image + n, untouched, sizeof image - n) == 0, path, "a byte behind a slice of its length is changed");
+    if (version == FSQ_REPEAT_VERSION)
+        wrong_repeats(path, length, count);
 }
 
 int main(int argc, char **argv) {

@@ -1,5 +1,5 @@
 /* slices FILE: the five functions and the header's inline functions over them on lent slices of every length that can matter, with the records of a
- * show file, whole and with a byte changed. A file of more records than version 1 has is loaded only.
+ * show file, whole and with a byte changed, each without a repeat and with one. A file of more records than version 1 has is loaded only.
  *
  * Every slice ends at a page that cannot be touched, or begins behind one, and what is only read cannot be written: a byte outside ends the program.
  * After each call is compared what it may change: on a refusal nothing but the report, else nothing behind what is answered; and the answer
@@ -161,9 +161,12 @@ static void call_all(enum function function, const uint8_t *bytes, size_t length
         call(function, bytes, length, offset, out_len, reports[i], first);
 }
 
+/* Which of three inline functions takes a record: that of its type, by its length, or that of bytes. */
+enum taken { BYTES, RECORD = FSQ_RECORD_LENGTH, REPEAT = FSQ_REPEAT_RECORD_LENGTH };
+
 /* An inline function beside the library's. `out_len` is that of ENCODE and LOAD; the others write a struct. Null are, by the bits of `nulls`, what is
  * read (with its length), what is written (with its length) and the report. */
-static void call_inline(enum function function, const uint8_t *bytes, size_t length, uint16_t offset, size_t out_len, unsigned nulls) {
+static void call_inline(enum function function, enum taken by, const uint8_t *bytes, size_t length, uint16_t offset, size_t out_len, unsigned nulls) {
     static const char *names[] = {"fsq_encode_at", "fsq_list_at", "fsq_read_at", "fsq_load_show", "fsq_form_at"};
     static uint8_t right[IMAGE];
     room to = function == LOAD ? image : out;
@@ -182,9 +185,15 @@ static void call_inline(enum function function, const uint8_t *bytes, size_t len
         : function == FORM ? fsq_form(bytes, given, offset, right, lent, right_report, sizeof right_report)
         : function == READ ? fsq_read(bytes, given, offset, right, lent)
         : fsq_load(bytes, given, right, lent, right_report, sizeof right_report);
-    answer = function == ENCODE ? fsq_encode_at((const fsq_record_t *) from, offset, o, out_len, r)
-        : function == LIST ? fsq_list_at((const fsq_record_t *) from, offset, (fsq_list_t *) o, r)
-        : function == FORM ? fsq_form_at((const fsq_record_t *) from, offset, (fsq_line_t *) o, r)
+    answer = function == ENCODE && by == RECORD ? fsq_encode_at((const fsq_record_t *) from, offset, o, out_len, r)
+        : function == ENCODE && by == REPEAT ? fsq_encode_repeat_at((const fsq_repeat_record_t *) from, offset, o, out_len, r)
+        : function == ENCODE ? fsq_encode_bytes_at(from, length, offset, o, out_len, r)
+        : function == LIST && by == RECORD ? fsq_list_at((const fsq_record_t *) from, offset, (fsq_list_t *) o, r)
+        : function == LIST && by == REPEAT ? fsq_list_repeat_at((const fsq_repeat_record_t *) from, offset, (fsq_list_t *) o, r)
+        : function == LIST ? fsq_list_bytes_at(from, length, offset, (fsq_list_t *) o, r)
+        : function == FORM && by == RECORD ? fsq_form_at((const fsq_record_t *) from, offset, (fsq_line_t *) o, r)
+        : function == FORM && by == REPEAT ? fsq_form_repeat_at((const fsq_repeat_record_t *) from, offset, (fsq_line_t *) o, r)
+        : function == FORM ? fsq_form_bytes_at(from, length, offset, (fsq_line_t *) o, r)
         : function == READ ? fsq_read_at(from, length, offset, (fsq_reading_t *) o)
         : fsq_load_show(from, length, o, out_len, r);
     calls++;
@@ -222,19 +231,22 @@ static void call_inline(enum function function, const uint8_t *bytes, size_t len
 }
 
 /* With every choice of what is null; a null pointer comes with its length and with 0. */
-static void call_inline_all(enum function function, const uint8_t *bytes, size_t length, size_t out_len) {
+static void call_inline_all(enum function function, enum taken by, const uint8_t *bytes, size_t length, size_t out_len) {
     uint16_t offset = (uint16_t) below(65536);
     for (unsigned nulls = 0; nulls < 8; nulls++)
-        call_inline(function, bytes, nulls & 1u && nulls & 2u ? 0 : length, offset, nulls & 2u && nulls & 4u ? 0 : out_len, nulls);
+        call_inline(function, by, bytes, nulls & 1u && nulls & 2u ? 0 : length, offset, nulls & 2u && nulls & 4u ? 0 : out_len, nulls);
 }
 
-/* A record, or the header where the number is below 0, into a file of each length that can matter, and into none. */
-static void write_inline(room to, int number, const fsq_record_t *record) {
-    size_t n = number < 0 ? FSQ_HEADER_LENGTH : FSQ_RECORD_LENGTH, at = number < 0 ? 0 : FSQ_HEADER_LENGTH + (size_t) number * n, end = at + n;
+/* A record of so many bytes, or the header where the number is below 0, into a file of each length that can matter, and into none. */
+static void write_inline(room to, int number, const uint8_t *record, size_t each) {
+    size_t n = number < 0 ? FSQ_HEADER_LENGTH : each, at = number < 0 ? 0 : FSQ_HEADER_LENGTH + (size_t) number * n, end = at + n;
     for (size_t more = 0; more < 4; more++) {
         size_t length = more == 3 ? 0 : end + more - 1;
         uint8_t *file = more == 3 ? NULL : lend(to, length);
-        int answer = number < 0 ? fsq_write_header(file, length, 4660, 3) : fsq_write_record(file, length, (uint16_t) number, record);
+        int answer = number < 0 && each == RECORD ? fsq_write_header(file, length, 4660, 3)
+            : number < 0 ? fsq_write_repeat_header(file, length, 4660, 3)
+            : each == RECORD ? fsq_write_record(file, length, (uint16_t) number, (const fsq_record_t *) record)
+            : fsq_write_repeat_record(file, length, (uint16_t) number, (const fsq_repeat_record_t *) record);
         int fits = length >= end;
         const char *wrong = NULL;
         calls++;
@@ -243,20 +255,53 @@ static void write_inline(room to, int number, const fsq_record_t *record) {
             wrong = "another answer";
         else if (file != NULL && !stays_but(to, fits ? file + at : file, fits ? n : 0))
             wrong = "a byte is changed that stays";
-        else if (fits && number >= 0 && memcmp(file + at, record, sizeof *record) != 0)
+        else if (fits && number >= 0 && memcmp(file + at, record, each) != 0)
             wrong = "another record";
         if (wrong != NULL)
             failed(number < 0 ? "fsq_write_header" : "fsq_write_record", wrong, length, end, 0, answer);
     }
 }
 
+/* A show of so many records of 57 bytes into a file of each length that can matter, and into none. */
+static void write_show_inline(room to, const uint8_t *records, size_t count) {
+    size_t each = FSQ_RECORD_LENGTH, end;
+    for (size_t k = 0; k < count; k++)
+        if (records[k * REPEAT + FSQ_REPEAT_AT] != 0)
+            each = REPEAT;
+    end = FSQ_HEADER_LENGTH + each * count;
+    for (size_t more = 0; more < 4; more++) {
+        size_t length = more == 3 ? 0 : end + more - 1;
+        uint8_t *file = more == 3 ? NULL : lend(to, length);
+        int answer = fsq_write_show(file, length, 4660, (const fsq_repeat_record_t *) records, count), fits = length >= end;
+        const char *wrong = NULL;
+        calls++;
+        refusals += answer < 0;
+        if (answer != (fits ? (int) end : -FSQ_SLICE_TOO_SHORT))
+            wrong = "another answer";
+        else if (file != NULL && !stays_but(to, file, fits ? end : 0))
+            wrong = "a byte is changed that stays";
+        for (size_t k = 0; wrong == NULL && fits && k < count; k++) {
+            const uint8_t *at = file + FSQ_HEADER_LENGTH + each * k, *record = records + k * REPEAT;
+            /* Of a file without repeats that byte is left out. */
+            size_t gap = each == REPEAT ? 0 : 1;
+            if (memcmp(at, record, FSQ_REPEAT_AT) != 0 || memcmp(at + FSQ_REPEAT_AT, record + FSQ_REPEAT_AT + gap, each - FSQ_REPEAT_AT) != 0)
+                wrong = "another record";
+        }
+        if (wrong != NULL)
+            failed("fsq_write_show", wrong, length, end, 0, answer);
+    }
+}
+
 int main(int argc, char **argv) {
     static const size_t strings[] = {0, 1, 2, 3, 4, 5, 6, 7, 8, 100}, lists[] = {0, 8, 95, 96, 97, 200}, readings[] = {0, 1, 23, 24, 25};
     static const size_t lines[] = {0, 1, 63, 64, 65, 200};
-    static const size_t record_lengths[] = {56, 56, 56, 56, 0, 1, 55, 57};
-    static uint8_t file[WHOLE];
+    static const size_t record_lengths[] = {56, 56, 56, 57, 57, 57, 0, 1, 55, 58};
+    static const uint8_t repeats[] = {0, 0xF2, 0xF3, 0xF3, 99};
+    static uint8_t file[WHOLE], record_57[3 * REPEAT];
     FILE *f = argc == 2 ? fopen(argv[1], "rb") : NULL;
-    size_t length = f == NULL ? 0 : fread(file, 1, sizeof file, f), count = length / FSQ_RECORD_LENGTH;
+    size_t length = f == NULL ? 0 : fread(file, 1, sizeof file, f);
+    int repeated = length >= FSQ_HEADER_LENGTH && file[FSQ_HEADER_VERSION_AT] == FSQ_REPEAT_VERSION;
+    size_t each_record = repeated ? REPEAT : RECORD, count = length / each_record;
     if (count == 0 || length + 16 > sizeof file) {
         fprintf(stderr, "slices: a show file is needed\n");
         return 1;
@@ -269,34 +314,61 @@ int main(int argc, char **argv) {
     image = fenced(IMAGE);
     whole = fenced(WHOLE);
 
-    for (size_t at = FSQ_HEADER_LENGTH; at + FSQ_RECORD_LENGTH < length && count <= FSQ_SHORT_RECORDS; at += FSQ_RECORD_LENGTH)
+    for (size_t at = FSQ_HEADER_LENGTH; at + each_record < length && count <= FSQ_SHORT_RECORDS; at += each_record)
         for (int change = 0; change < 4; change++) {
-            size_t record_len = record_lengths[below(8)], bytes_len = below(9);
-            const uint8_t *record = lend_in(file + at, record_len, change);
+            size_t record_len = record_lengths[below(10)], bytes_len = below(9);
+            const uint8_t *record;
+            /* The record three times with a repeat; a string operation now and then, before which a repeat may stand. */
+            for (size_t k = 0; k < 3; k++) {
+                uint8_t *to = record_57 + k * REPEAT;
+                memcpy(to, file + at, FSQ_REPEAT_AT);
+                memcpy(to + FSQ_REPEAT_AT + 1, file + at + FSQ_REPEAT_AT + (repeated ? 1 : 0), RECORD - FSQ_REPEAT_AT);
+                to[FSQ_REPEAT_AT] = repeats[change == 0 ? 0 : below(5)];
+                if (below(4) == 0)
+                    to[FSQ_OPERATION_AT] = (uint8_t) (FSQ_MOVSB + below(10));
+            }
+            record = lend_in(record_len == RECORD && !repeated ? file + at : record_57, record_len, change);
             for (size_t i = 0; i < sizeof strings / sizeof *strings; i++)
                 call_all(ENCODE, record, record_len, strings[i]);
             call_all(LIST, record, record_len, lists[below(6)]);
             for (size_t i = 0; i < sizeof lines / sizeof *lines; i++)
                 call_all(FORM, record, record_len, lines[i]);
+            call_inline_all(ENCODE, BYTES, record, record_len, strings[below(10)]);
+            call_inline_all(LIST, BYTES, record, record_len, 0);
+            call_inline_all(FORM, BYTES, record, record_len, 0);
             /* Bytes that are random but for the first. */
             for (size_t i = 0; i < 8; i++)
                 file[length + i] = (uint8_t) below(256);
-            file[length] = (uint8_t) (at / FSQ_RECORD_LENGTH + 256 / 4 * (size_t) change);
+            file[length] = (uint8_t) (at / each_record + 256 / 4 * (size_t) change);
             call_all(READ, lend_in(file + length, bytes_len, 0), bytes_len, readings[below(5)]);
-            call_inline_all(READ, lend_in(file + length, bytes_len, 0), bytes_len, 0);
-            record = lend_in(file + at, FSQ_RECORD_LENGTH, change);
-            call_inline_all(ENCODE, record, FSQ_RECORD_LENGTH, strings[below(10)]);
-            call_inline_all(LIST, record, FSQ_RECORD_LENGTH, 0);
-            call_inline_all(FORM, record, FSQ_RECORD_LENGTH, 0);
-            for (int number = -1; number < 3; number++)
-                write_inline(out, number, (const fsq_record_t *) record);
+            call_inline_all(READ, BYTES, lend_in(file + length, bytes_len, 0), bytes_len, 0);
+            /* A repeat, and behind it nothing, a string operation or anything. */
+            file[length] = below(2) ? 0xF2 : 0xF3;
+            file[length + 1] = (uint8_t) (below(2) ? 0xA4 + below(12) : below(256));
+            call_all(READ, lend_in(file + length, bytes_len, 0), bytes_len, readings[below(5)]);
+            call_inline_all(READ, BYTES, lend_in(file + length, bytes_len, 0), bytes_len, 0);
+            for (int with = 0; with < 2; with++) {
+                enum taken by = with ? REPEAT : RECORD;
+                record = lend_in(with || repeated ? record_57 : file + at, (size_t) by, change);
+                call_inline_all(ENCODE, by, record, (size_t) by, strings[below(10)]);
+                call_inline_all(LIST, by, record, (size_t) by, 0);
+                call_inline_all(FORM, by, record, (size_t) by, 0);
+                for (int number = -1; number < 3; number++)
+                    write_inline(out, number, record, (size_t) by);
+            }
+            record = lend_in(record_57, sizeof record_57, 0);
+            for (size_t n = 0; n <= 3; n++)
+                write_show_inline(out, record, n);
         }
-    write_inline(whole, FSQ_SHORT_RECORDS, (const fsq_record_t *) lend_in(file + FSQ_HEADER_LENGTH, FSQ_RECORD_LENGTH, 0));
-    write_inline(whole, FSQ_MOST_RECORDS - 1, (const fsq_record_t *) lend_in(file + FSQ_HEADER_LENGTH, FSQ_RECORD_LENGTH, 0));
+    for (int with = 0; with < 2; with++) {
+        size_t each_of = with ? REPEAT : RECORD;
+        write_inline(whole, FSQ_SHORT_RECORDS, lend_in(file + FSQ_HEADER_LENGTH, each_of, 0), each_of);
+        write_inline(whole, FSQ_MOST_RECORDS - 1, lend_in(file + FSQ_HEADER_LENGTH, each_of, 0), each_of);
+    }
     for (int i = 0; i < 200; i++) {
         size_t file_len = i % 4 == 0 ? length : below((uint32_t) length + 8), image_len = i % 3 == 0 ? IMAGE : below((uint32_t) (FSQ_STRING_LENGTH * count));
         call_all(LOAD, lend_in(file, file_len, i % 2), file_len, image_len);
-        call_inline_all(LOAD, lend_in(file, file_len, i % 2), file_len, image_len);
+        call_inline_all(LOAD, BYTES, lend_in(file, file_len, i % 2), file_len, image_len);
     }
     printf("slices: %lu calls, %lu refused, %lu failed\n", calls, refusals, failures);
     return failures != 0 || refusals == 0 || refusals == calls;

@@ -1,11 +1,11 @@
-"""The text that fsqform has to print, from the text that fsqlist has to print and the show file (document 02, No. 3). The rows are the SDM's opcode column and the
+"""The text that fsqform has to print, from the text that fsqlist has to print and the show file (document 02, Nos. 3 and 11). The rows are the SDM's opcode column and the
 limits those of documents 01 and 02, written out by opcode: nothing here is taken from our encoder, reader or definitions."""
 import pathlib
 import sys
 
 sys.path.insert(0, str(pathlib.Path(__file__).resolve().parent.parent.parent / 'tools'))
 from operations import (
-    BYTE, FIRST, HEADER, IMM, MARK, MEM, OPERAND, OPERATIONS, PREFIXES, REG, SECOND, SEG, UNSPECIFIED, WORD)
+    BYTE, FIRST, HEADER, IMM, MARK, MEM, OPERAND, OPERATIONS, PREFIXES, REG, REPEAT, REPEATS, REPEAT_VERSION, SECOND, SEG, UNSPECIFIED, WORD)
 
 KIND_NAMES = {IMM: 'Imm', REG: 'Reg', SEG: 'Seg', MEM: 'Mem'}
 SIZE_NAMES = {UNSPECIFIED: 'Unspecified', BYTE: 'Byte', WORD: 'Word'}
@@ -54,8 +54,8 @@ ROWS = [
     ('FE', '0-1', 1, NO_LIMITS),
     ('FF', '0-4 6', 1, NO_LIMITS),
 ]
-# the question of document 01 that gives a refusal; 4 is below
-QUESTIONS = {8: 1, 7: 2, 2: 3, 3: 4, 1: 5, 5: 6, 6: 7}
+# the question of documents 01 and 02 that gives a refusal; 4 is below
+QUESTIONS = {8: 1, 23: 1, 7: 2, 2: 3, 3: 4, 1: 5, 5: 6, 6: 7}
 POP, XCHG = OPERATIONS.index('POP'), OPERATIONS.index('XCHG')
 
 
@@ -70,13 +70,23 @@ TABLE = {(opcode, digit): (used, limits)
 
 
 def record(packed, k):
-    length = SECOND + OPERAND.size
-    return packed[len(MARK) + HEADER.size + length * k:][:length]
+    """The record's fields where 56 bytes have them, and its repeat, or 0."""
+    version, *_ = HEADER.unpack_from(packed, len(MARK))
+    has_repeat = version == REPEAT_VERSION
+    length = SECOND + OPERAND.size + has_repeat
+    own = packed[len(MARK) + HEADER.size + length * k:][:length]
+    return (own[:REPEAT] + own[REPEAT + 1:], own[REPEAT]) if has_repeat else (own, 0)
+
+
+def behind_prefixes(written):
+    """The bytes from the opcode on. F2 or F3 is one by itself where nothing follows it."""
+    is_before = written[0] in PREFIXES or written[0] in REPEATS.values() and len(written) > 1
+    return written[1:] if is_before else written
 
 
 def head(written):
     """Opcode and /n of the bytes, the key of the table."""
-    written = written[1:] if written[0] in PREFIXES else written
+    written = behind_prefixes(written)
     return (written[0], None) if (written[0], None) in TABLE else (written[0], written[1] // 8 % 8)
 
 
@@ -100,10 +110,10 @@ def text(packed, listing, stated=()):
     first, *rest = listing.splitlines()
     if first.startswith('refused'):
         _, number, k = first.split()
-        below = {} if int(number) >= 12 else {int(k): question(int(number), record(packed, int(k)))}
+        below = {} if int(number) in range(12, 16) else {int(k): question(int(number), record(packed, int(k))[0])}
         lines = [first, *below.values()]
     else:
-        below = {k: form(bytes.fromhex(line.split()[2]), record(packed, k)) for k, line in enumerate(rest)}
+        below = {k: form(bytes.fromhex(line.split()[2]), record(packed, k)[0]) for k, line in enumerate(rest)}
         lines = [first, *(part for k, line in enumerate(rest) for part in (line, below[k]))]
     for k, line in dict(stated).items():
         assert below.get(k) == line, (k, line, below.get(k))

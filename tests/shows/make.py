@@ -1,13 +1,14 @@
 #!/usr/bin/env python3
 """make.py DIR writes every show of this folder, and the cases of the gate, to DIR: NAME.fsq, the show file, NAME.out, what fsqlist has to print, and NAME.forms,
 what fsqform has to print.
-make.py --long N NAME writes NAME.fsq, a show of N records, and NAME.image, the image that it has to give.
-make.py --assemble compares the bytes of this folder's shows, and of the long one, with those of GNU as and of NASM.
+make.py --long N NAME [VERSION] writes NAME.fsq, a show of N records, of the version that N has or of version 3, and NAME.image, the image that it has to give.
+make.py --assemble compares the bytes of this folder's shows, and of the long ones, with those of GNU as and of NASM.
 
 A show stands as text in NAME.txt, a line for each record: the instruction, a bar, and its bytes or 'refused N'. A second bar and fsqform's line may follow.
-'far', 'near' or 'short' before an operand is its jump kind. The listing is made from the lengths of those bytes alone. Before the records may stand 'origin N',
-'version N' (else it is 1), 'count N' (where it is not the records') and 'mark BYTES'; 'field NAME N' behind a record sets a byte of it, 'answer' gives its answer
-again, 'cut N' leaves N bytes of the file, 'more N' adds N zeros. 'refused N -' behind the records is the answer of the whole file. Numbers are decimal."""
+'far', 'near' or 'short' before an operand is its jump kind, REP or REPNE before another operation its repeat. The listing is made from the lengths of those bytes
+alone. Before the records may stand 'origin N', 'version N' (else it is 1; the records of version 3 are written with their repeat), 'count N' (where it is not the
+records'), 'bytes 56' or 'bytes 57' (where a record's are not the version's) and 'mark BYTES'; 'field NAME N' behind a record sets a byte of it, 'answer' gives its
+answer again, 'cut N' leaves N bytes of the file, 'more N' adds N zeros. 'refused N -' behind the records is the answer of the whole file. Numbers are decimal."""
 import pathlib
 import re
 import subprocess
@@ -20,12 +21,15 @@ sys.path.insert(0, str(ROOT / 'tools'))
 import forms
 from operations import (
     BASES, BYTE, BYTE_REGISTERS, FAR, FIRST, HEADER, IMM, KINDS, JUMPS, MARK, MEM, NEAR, NO_KIND, OPERAND, OPERATIONS, RECORD, REG, SECOND, SEG, SEGMENTS, SHORT,
-    SIZES, TEXT_RECORDS, UNSPECIFIED, WORD, WORD_REGISTERS, version_of)
+    REPEAT, REPEATS, REPEAT_VERSION, SIZES, TEXT_RECORDS, UNSPECIFIED, WORD, WORD_REGISTERS, version_of, with_repeat)
 
 STORED = {name: ROOT / f'crates/test_vectors/data/{name}.txt' for name in ('bench_sheet', 'sample')}
 FIRST_BRANCH, LAST_BRANCH = OPERATIONS.index('CALL'), OPERATIONS.index('JCXZ')
 SAID_SIZES = {'': UNSPECIFIED, 'byte': BYTE, 'word': WORD}
 SAID_JUMPS = {'': NO_KIND, 'far': FAR, 'near': NEAR, 'short': SHORT}
+PLAIN_BYTES = SECOND + OPERAND.size
+REPEATED_BYTES = PLAIN_BYTES + 1
+# by their places in 56 bytes; the repeat, which those do not have, is set by itself
 FIELDS = {'operation': 0, 'count': 1}
 for number, start in (('1', FIRST), ('2', SECOND)):
     for place, name in enumerate(['kind', 'size', 'prefix', 'displacement-size', 'jump', 'mode', 'rm']):
@@ -56,16 +60,25 @@ def operand(text):
     return OPERAND.pack(kind, size, prefix, disp_size, SAID_JUMPS[jump], mode, rm, imm, disp, 0, 0)
 
 
+def bytes_of(version):
+    return REPEATED_BYTES if version == REPEAT_VERSION else PLAIN_BYTES
+
+
 def record(text):
+    """Its 56 bytes, and its repeat or 0."""
     operation, _, rest = text.partition(' ')
+    repeat = 0
+    if operation in REPEATS and rest:
+        repeat = REPEATS[operation]
+        operation, _, rest = rest.partition(' ')
     operands = [operand(o.strip()) for o in rest.split(',')] if rest else []
     unused = operand('0')
-    return bytearray(RECORD.pack(OPERATIONS.index(operation), len(operands), 0, 0) + b''.join((operands + [unused] * 2)[:2]))
+    return bytearray(RECORD.pack(OPERATIONS.index(operation), len(operands), 0, 0) + b''.join((operands + [unused] * 2)[:2])), repeat
 
 
 def show(text):
     """The file, its listing and its text with forms."""
-    mark, version, origin, count, records, answers, below, cut, more = MARK, 1, 0, None, [], [], {}, None, 0
+    mark, version, origin, count, each, records, repeats, answers, below, cut, more = MARK, 1, 0, None, None, [], [], [], {}, None, 0
 
     def answer(said):
         said, _, line = (part.strip() for part in said.partition('|'))
@@ -80,11 +93,17 @@ def show(text):
             continue
         if '|' in line and words[0] != 'answer':
             instruction, _, said = line.partition('|')
-            records.append(record(instruction.strip()))
+            packed, repeat = record(instruction.strip())
+            records.append(packed)
+            repeats.append(repeat)
             answer(said)
-        elif words[0] == 'record':  # a record's own 56 bytes, then its answer
-            records.append(bytearray.fromhex(words[1]))
+        elif words[0] == 'record':  # a record's own bytes, 56 or with its repeat 57, then its answer
+            own = bytearray.fromhex(words[1])
+            repeats.append(own.pop(REPEAT) if len(own) == REPEATED_BYTES else 0)
+            records.append(own)
             answer(' '.join(words[2:]))
+        elif words[:2] == ['field', 'repeat']:
+            repeats[-1] = int(words[2])
         elif words[0] == 'field':
             records[-1][FIELDS[words[1]]] = int(words[2])
         elif words[0] == 'answer':
@@ -98,6 +117,8 @@ def show(text):
             origin = int(words[1])
         elif words[0] == 'count':
             count = int(words[1])
+        elif words[0] == 'bytes':
+            each = int(words[1])
         elif words[0] == 'cut':
             cut = int(words[1])
         elif words[0] == 'more':
@@ -107,6 +128,10 @@ def show(text):
             break
         else:
             raise ValueError(line)
+    if (each or bytes_of(version)) == REPEATED_BYTES:
+        records = [with_repeat(own, repeat) for own, repeat in zip(records, repeats)]
+    else:
+        assert not any(repeats), 'a repeat needs version 3'
     packed = mark + HEADER.pack(version, origin, len(records) if count is None else count) + b''.join(records) + bytes(more)
     refusal = text_refusal(answers)
     if refusal:
@@ -129,6 +154,16 @@ def text_refusal(answers):
     return f'{answer}\n' if answer.endswith('-') else f'refused {number} {k}\n'
 
 
+# ---- document 02, No. 11: the ten string operations and the SDM's bytes of them
+STRINGS = {'MOVSB': 'A4', 'MOVSW': 'A5', 'CMPSB': 'A6', 'CMPSW': 'A7', 'SCASB': 'AE', 'SCASW': 'AF', 'LODSB': 'AC', 'LODSW': 'AD', 'STOSB': 'AA', 'STOSW': 'AB'}
+# each behind F2 and F3
+REPEATED = [f'{name} {operation} | {repeat:02X} {opcode} | form {opcode} -' for operation, opcode in STRINGS.items() for name, repeat in REPEATS.items()]
+
+
+def repeated_strings():
+    return {bytes.fromhex(line.split('|')[1]) for line in REPEATED}
+
+
 # ---- a long show (document 02, No. 5). By its origin the offsets wrap at 65,536 before record 600.
 LONG_ORIGIN = 64000
 
@@ -137,14 +172,17 @@ def word(n):
     return f'{n % 256:02X} {n // 256 % 256:02X}'
 
 
-def long_show(count):
+def long_show(count, version=None):
     """The lines of so many records, each but LOOP with its own number in it: wait and shoot as a cue of No. 9 does, count, store, call and jump. The bytes are those of the
-    SDM's B9, E2, B0, E6, 83 /0 and 81 /0, C7 /0, E8 and 74; the distances document 01's, of CALL modulo 65,536 and of LOOP and JE not wrapped."""
-    yield f'version {version_of(count)}'
+    SDM's B9, E2, B0, E6, 83 /0 and 81 /0, C7 /0, E8 and 74; the distances document 01's, of CALL modulo 65,536 and of LOOP and JE not wrapped. In version 3 each ninth is a
+    string operation with a repeat."""
+    version = version or version_of(count)
+    yield f'version {version}'
     yield f'origin {LONG_ORIGIN}'
     offset = LONG_ORIGIN
     for k in range(count):
         low, distance = f'{k % 256:02X}', k % 256 - 128
+        repeated = [part.strip() for part in REPEATED[k % len(REPEATED)].split('|')[:2]]
         instruction, written = [
             (f'MOV CX,{k}', f'B9 {word(k)}'),
             (f'LOOP {offset}', 'E2 FE'),
@@ -153,13 +191,14 @@ def long_show(count):
             (f'ADD BX,{k}', f'83 C3 {low}' if k < 128 else f'81 C3 {word(k)}'),
             (f'MOV word [BX+4660],{k}', f'C7 87 34 12 {word(k)}'),
             (f'CALL {k}', f'E8 {word(k - (offset + 3))}'),
-            (f'JE {offset + 2 + distance}', f'74 {distance % 256:02X}')][k % 8]
+            (f'JE {offset + 2 + distance}', f'74 {distance % 256:02X}'),
+            *([repeated] if version == REPEAT_VERSION else [])][k % (9 if version == REPEAT_VERSION else 8)]
         yield f'{instruction} | {written}'
         offset = (offset + len(bytes.fromhex(written))) % 65536
 
 
-# ---- the cases of the gate. Bytes and refusals are those of document 01 (bench sheet, questions, code list) and of document 02, Nos. 1, 2, 4 and 5, unless another
-# source is named.
+# ---- the cases of the gate. Bytes and refusals are those of document 01 (bench sheet, questions, code list) and of document 02, Nos. 1, 2, 4, 5 and 11, unless
+# another source is named.
 AAM = 'AAM | D4 0A'
 MOV = 'MOV AX,4660 | B8 34 12'
 REFUSED = {
@@ -173,6 +212,7 @@ REFUSED = {
     8: [AAM, 'field count 3', 'answer refused 8'],
     15: [AAM, f'field operation {len(OPERATIONS)}', 'answer refused 15'],
 }
+REPEAT_99 = ['MOVSB | refused 23', 'field repeat 99']
 # the first number that is no code
 UNKNOWN = {'operation': len(OPERATIONS)} | {name + operand: len(codes) for operand in '12' for name, codes in (
     ('kind', KINDS), ('size', SIZES), ('displacement-size', SIZES), ('jump', JUMPS))}
@@ -354,11 +394,27 @@ FIRST_OF_TWO = {
 }
 
 
-def failing(question, refusals):
+# the same of version 3: 8 before 23 and 23 before every other (No. 11); a repeat of 99, or F3 (243) or F2 (242) on another operation
+REPEAT_FIRST_OF_TWO = {
+    (1, 2): {23: ['ESC; repeat 243', 'ESC; repeat 242', 'INT1; repeat 243', 'INT1; repeat 99']},
+    (1, 3): {23: ['NOT [BX]; repeat 243', 'ADD [BX],5; repeat 99', 'POP 5; repeat 242', 'INC [BX]; repeat 243', 'SHL [BX],1; repeat 1', 'XLATB; repeat 243']},
+    (1, 4): {23: ['MOV AX,BL; repeat 243', 'TEST AX,CL; repeat 99']},
+    (1, 5): {23: ['PUSH AL; repeat 243', 'RET AX; repeat 255', 'POP 5; size1 2; repeat 242']},
+    (1, 6): {23: ['MOV byte [BX],300; repeat 243', 'JMP 65536; repeat 99', 'INT 256; repeat 242']},
+    (1, 7): {23: ['JE 60000; repeat 243', 'LOOP 60000; repeat 99', 'JMP short 30000; repeat 242']},
+    # of question 1 itself: the count, the first operand, the second, then the repeat
+    (1, 1): {8: ['MOVSB; count 3; repeat 99', 'MOVSB; count 255; repeat 1', 'NOP; count 3; repeat 243', 'MOVSB; mode1 2; repeat 99', 'MOVSB; prefix1 38; repeat 244', 'CALL 5; rm1 1; repeat 243',
+        'MOVSB; kind2 1; repeat 99', 'MOV AX,BX; mode2 2; repeat 242', 'LOCK; prefix2 38; repeat 243', 'ESC; count 3; repeat 243', 'REP; rm2 1; repeat 242',
+        # a repeat that is one
+        'MOVSB; count 3; repeat 243', 'STOSW; mode1 2; repeat 242', 'SCASB; kind2 1; repeat 242']},
+}
+
+
+def failing(question, refusals, version=1):
     """A show for each record that the question refuses."""
     for number, records in refusals.items():
         for instruction, *fields in (line.split('; ') for line in records):
-            yield ['origin 256', MOV, f'{instruction} | refused {number} | question {question}', *(f'field {field}' for field in fields), AAM]
+            yield [f'version {version}', 'origin 256', MOV, f'{instruction} | refused {number} | question {question}', *(f'field {field}' for field in fields), AAM]
 
 
 def stored(name):
@@ -399,16 +455,20 @@ def cases():
     for length in range(3, 9):
         yield f'bytes-{length}', [f'cut {length}', 'refused 14 -']
     yield 'mark-before-length', ['mark 46 53 50', 'cut 4', 'refused 12 -']
-    yield 'mark-before-version', ['mark 46 53 50', 'version 3', 'refused 12 -']
+    yield 'mark-before-version', ['mark 46 53 50', 'version 4', 'refused 12 -']
+    yield 'mark-before-length-of-3', ['mark 46 53 50', 'version 3', 'bytes 56', AAM, 'refused 12 -']
     yield 'mark-before-count', ['mark 46 53 50', 'version 2', *[AAM] * 1001, 'refused 12 -']
-    yield 'nine-bytes-before-version', ['version 3', 'cut 8', 'refused 14 -']
+    for version in (3, 4):
+        yield f'nine-bytes-before-version-{version}', [f'version {version}', 'cut 8', 'refused 14 -']
     yield 'the-first-unknown', [MOV, *REFUSED[15], *REFUSED[15]]
-    for version in (0, 3, 257, 258, 65535):
-        yield f'version-{version}', [f'version {version}', AAM, 'refused 13 -']
+    for version in (0, 4, 5, 257, 258, 259, 768, 65535):
+        for each in (56, 57):
+            yield f'version-{version}-bytes-{each}', [f'version {version}', f'bytes {each}', AAM, 'refused 13 -']
         # 1,171 records are more than the programs read
         for count in (0, 1001, 1171):
             yield f'version-{version}-count-{count}', [f'version {version}', *[AAM] * count, 'refused 13 -']
-    yield 'version-before-count', ['version 3', 'count 2', AAM, 'refused 13 -']
+    yield 'version-before-count', ['version 4', 'count 2', AAM, 'refused 13 -']
+    yield 'version-before-repeat', ['version 4', 'bytes 57', *REPEAT_99, 'refused 13 -']
     # No. 5: on the wrong side of its version, and above it what the loader takes and these programs do not
     yield 'version-2', ['version 2', AAM, 'refused 14 -']
     for count in (0, 999, 1000, 1001, 1170, 1171, 3200, 8000, 8001):
@@ -418,6 +478,8 @@ def cases():
         yield f'version-2-{name}', ['version 2', *lines, 'refused 14 -']
     for count in (1000, 1001, 3200, 8000):
         yield f'long-{count}', [*long_show(count), *['refused 14 -'] * (count > TEXT_RECORDS)]
+        yield f'version-3-long-{count}', [*long_show(count, REPEAT_VERSION), *['refused 14 -'] * (count > TEXT_RECORDS)]
+    yield from repeat_cases()
     for count in (1001, 8000, 8001):
         yield f'count-{count}', [*[AAM] * count, 'refused 14 -']
     yield 'count-65535', ['count 65535', AAM, 'refused 14 -']
@@ -457,7 +519,97 @@ def cases():
     # the stored records, each at its own offset
     for name in STORED:
         for k, (packed, _, offset, answer) in enumerate(stored(name)):
-            yield f'{name}-{k}', [f'origin {offset}', f'record {packed} {answer}']
+            version = REPEAT_VERSION if len(packed) == 2 * REPEATED_BYTES else 1
+            yield f'{name}-{k}', [f'version {version}', f'origin {offset}', f'record {packed} {answer}']
+
+
+def repeat_cases():
+    """No. 11: version 3 and the repeat."""
+    def of_3(name, *lines):
+        return f'version-3-{name}', ['version 3', *lines]
+
+    # Repeat 0: as version 1 has it.
+    yield of_3('document-01', 'origin 256', MOV, AAM, 'LOOP 256 | E2 F9')
+    yield of_3('forms', 'origin 256', *FORMS)
+    yield of_3('forms-branches', *BRANCHES)
+    yield of_3('negative', 'origin 256', *NEGATIVE, *DATA)
+    yield of_3('forms-longest', *['ADD word [BX+4660],4660 | 26 81 87 34 12 34 12', 'field prefix1 38'] * 1000)
+    for k, (packed, _, offset, answer) in enumerate(stored('bench_sheet')):
+        if len(packed) == 2 * PLAIN_BYTES:
+            yield of_3(f'bench-sheet-{k}', f'origin {offset}', f'record {packed} {answer}')
+    # Each operation with each repeat, and without one.
+    yield of_3('repeated', 'origin 256', *REPEATED, *(f'{operation} | {opcode} | form {opcode} -' for operation, opcode in STRINGS.items()))
+    for line in REPEATED:
+        yield of_3(line.split('|')[0].strip().replace(' ', '-').lower(), 'origin 65535', line, AAM)
+    yield of_3('all-repeated', *[REPEATED[k % len(REPEATED)] for k in range(1000)])
+    # An operand that is not used, and the count, say nothing.
+    yield of_3('repeated-operands', 'REP MOVSB AX,BX | F3 A4 | form A4 -', 'REPNE SCASW 5 | F2 AF | form AF -', 'REP STOSB [BX] | F3 AA | form AA -', 'field prefix1 38')
+    # Records beside each other stay two, and a branch counts the repeat.
+    yield 'rep-then-movsb', ['REP | F3 | form F3 -', 'MOVSB | A4 | form A4 -', 'REPNE | F2', 'SCASB | AE', 'LOOP 0 | E2 FA']
+    yield of_3('rep-then-movsb', 'REP | F3 | form F3 -', 'MOVSB | A4 | form A4 -', 'REP MOVSB | F3 A4', 'REP | F3', 'REP MOVSB | F3 A4', 'REPNE | F2', 'LOOP 2 | E2 F8')
+    yield of_3('repeat-wraps', 'origin 65534', 'REP MOVSW | F3 A5', 'JMP 65534 | E9 FB FF', 'REPNE CMPSB | F2 A6', 'LOOP 3 | E2 FC', 'JE 5 | 74 FC')
+
+    # 23: each other value, each other operation; in a file never 15.
+    def refused(name, instruction, repeat):
+        return of_3(f'repeat-{repeat}-{name}', 'origin 256', MOV, f'{instruction} | refused 23 | question 1', f'field repeat {repeat}', AAM)
+
+    for repeat in range(256):
+        if repeat not in (0, *REPEATS.values()):
+            yield refused('movsb', 'MOVSB', repeat)
+    for repeat in (1, 99, 0xF0, 0xF1, 0xF4, 0xFF):
+        for operation in ('STOSW', 'CMPSW', 'NOP', 'REP', 'LOCK'):
+            yield refused(operation.lower(), operation, repeat)
+    for operation in OPERATIONS:
+        if operation not in STRINGS:
+            for repeat in REPEATS.values():
+                yield refused(operation.lower(), operation, repeat)
+    for instruction in ('MOV AX,4660', 'CALL 256', 'MOV AX,[BX]', 'XLATB word [BX]', 'ADD BX,5', 'JMP short 256', 'PUSH DS', 'INT 33', 'OUT DX,AL'):
+        yield refused(instruction.lower().replace(' ', '-'), instruction, REPEATS['REP'])
+    for place, lines in (('first', [*REPEAT_99, MOV, AAM]), ('last', [MOV, AAM, *REPEAT_99])):
+        yield of_3(f'refused-23-{place}', 'origin 256', *lines)
+    yield of_3('record-999', *[AAM] * 999, *REPEAT_99)
+
+    # The first of two: of the questions of a record, of two records, and 15 before both.
+    for (question, later), refusals in REPEAT_FIRST_OF_TWO.items():
+        for k, lines in enumerate(failing(question, refusals, REPEAT_VERSION)):
+            yield f'question-{question}-not-{later}-repeat-{k}', lines
+    bad = REFUSED | {23: REPEAT_99}
+    for one, other in ((23, 7), (7, 23), (23, 8), (8, 23), (23, 1), (5, 23)):
+        yield of_3(f'{one}-then-{other}', AAM, *bad[one], *bad[other])
+    yield of_3('the-first-of-two-repeats', AAM, *REPEAT_99, 'LOCK | refused 23', 'field repeat 243')
+    for field, code in UNKNOWN.items():
+        for name, number, lines in (('', code, ['MOVSB | refused 15']), ('-255', 255, ['MOVSB | refused 15']), ('-with-23', code, ['MOVSB | refused 15', 'field repeat 99']),
+                ('-repeated', code, ['REP MOVSB | refused 15'])):
+            yield of_3(f'unknown-{field}{name}', MOV, *lines, f'field {field} {number}', AAM)
+    yield of_3('codes-before-an-earlier-23', *REPEAT_99, AAM, *REFUSED[15])
+    yield of_3('codes-before-a-later-23', *REFUSED[15], AAM, *REPEAT_99)
+    yield of_3('codes-before-records', *REFUSED[5], AAM, *REFUSED[15])
+    for number, lines in REFUSED.items():
+        yield of_3(f'refused-{number}-middle', 'origin 256', MOV, *lines, AAM)
+
+    # Counts and lengths; above 1,000 these programs answer 14, whatever the records are. 1,149 records are the most that the programs read.
+    yield of_3('no-records', 'origin 65535')
+    yield of_3('one-record', 'origin 65535', AAM)
+    for count in (1001, 1149, 1150, 3200, 8000, 8001):
+        yield of_3(f'count-{count}', *['REP MOVSB | F3 A4'] * count, 'refused 14 -')
+    for name, lines in (('unknown-code', [*[AAM] * 1000, *REFUSED[15]]), ('unknown-first', [*REFUSED[15], *[AAM] * 1000]), ('refused-record', [*REPEAT_99, *[AAM] * 1000]),
+            ('count-too-high', ['count 1002', *[AAM] * 1001]), ('one-byte-more', ['more 1', *[AAM] * 1001]), ('header-alone', ['count 8000']), ('count-65535', ['count 65535', AAM])):
+        yield of_3(f'above-1000-{name}', *lines, 'refused 14 -')
+    for count in (0, 1, 2, 1000):
+        length = len(MARK) + HEADER.size + REPEATED_BYTES * count
+        if count:
+            yield of_3(f'one-byte-less-of-{count}', f'cut {length - 1}', *[AAM] * count, 'refused 14 -')
+            yield of_3(f'record-of-56-of-{count}', 'bytes 56', *[AAM] * count, 'refused 14 -')
+            yield f'record-of-57-of-{count}', ['bytes 57', *[AAM] * count, 'refused 14 -']
+        yield of_3(f'one-byte-more-of-{count}', 'more 1', *[AAM] * count, 'refused 14 -')
+        yield of_3(f'count-too-high-of-{count}', f'count {count + 1}', *[AAM] * count, 'refused 14 -')
+    yield of_3('count-too-low', 'count 1', AAM, AAM, 'refused 14 -')
+    yield 'version-2-record-of-57', ['version 2', 'bytes 57', *[AAM] * 1001, 'refused 14 -']
+    # 57 records of 56 bytes are as long as 56 of 57
+    yield 'as-long-as-version-3', [AAM] * 57
+    yield of_3('as-long-as-version-1', *[AAM] * 56)
+    yield of_3('length-before-codes', 'more 1', *REFUSED[15], 'refused 14 -')
+    yield of_3('length-before-records', 'more 1', *REPEAT_99, 'refused 14 -')
 
 
 def stated(source):
@@ -528,14 +680,15 @@ def image(source):
 def main():
     if sys.argv[1] == '--long':
         count, name = int(sys.argv[2]), sys.argv[3]
-        source = '\n'.join(long_show(count))
+        source = '\n'.join(long_show(count, *map(int, sys.argv[4:])))
         pathlib.Path(f'{name}.fsq').write_bytes(show(source)[0])
         pathlib.Path(f'{name}.image').write_bytes(image(source))
         return
     if sys.argv[1] == '--assemble':
         # A branch of the long show goes to no label, which as needs.
         sources = [(name, source, [('as', by_as), ('nasm', by_nasm)]) for name, source in folder_sources().items()]
-        for name, source, assemblers in [*sources, ('long', '\n'.join(long_show(8000)), [('nasm', by_nasm)])]:
+        long = [(name, '\n'.join(long_show(8000, version)), [('nasm', by_nasm)]) for name, version in (('long', None), ('long of version 3', REPEAT_VERSION))]
+        for name, source, assemblers in [*sources, *long]:
             lines, written = list(stated(source)), image(source)
             for assembler, assembled in assemblers:
                 made = assembled(lines)

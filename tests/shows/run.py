@@ -13,7 +13,7 @@ import make
 
 PROGRAMS = [make.ROOT / 'target/bin' / name for name in ('fsqlist', 'fsqform')]
 # every refusal of a record with every question that can give it
-GROUNDS = {(8, 1), (7, 2), (2, 3), (4, 3), (3, 4), (1, 5), (4, 5), (5, 6), (6, 7)}
+GROUNDS = {(8, 1), (23, 1), (7, 2), (2, 3), (4, 3), (3, 4), (1, 5), (4, 5), (5, 6), (6, 7)}
 
 
 def run(program, stdin, stdout=subprocess.PIPE, closed=None, arguments=()):
@@ -51,14 +51,17 @@ def faults_of_shows(shows):
 
 def faults_of_coverage(shows):
     """What no show asks for."""
-    heads, grounds = set(), set()
+    heads, grounds, repeats = set(), set(), set()
     for _, _, listing, with_forms in shows:
         first, *rest = listing.splitlines()
-        heads |= {forms.head(bytes.fromhex(line.split()[2])) for line in rest}
+        written = [bytes.fromhex(line.split()[2]) for line in rest]
+        heads |= {forms.head(one) for one in written}
+        repeats |= {one for one in written if one[0] in forms.REPEATS.values() and len(one) > 1}
         asked = re.fullmatch(r'refused (\d+) \d+\nquestion (\d)\n', with_forms)
         if asked:
             grounds.add(tuple(map(int, asked.groups())))
     yield from (f'no show has opcode and /n {opcode:02X} {digit}' for opcode, digit in forms.TABLE.keys() - heads)
+    yield from (f'no show has {one.hex().upper()}, or it is no string operation with a repeat' for one in repeats ^ make.repeated_strings())
     yield from (f'refusal {number} by question {question} is not met, or does not exist' for number, question in grounds ^ GROUNDS)
 
 

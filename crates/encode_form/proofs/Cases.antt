@@ -17,10 +17,10 @@ use Rattle.mrc_compiler.specs.declared.ast.OptionDataSize.{OptionDataSize}
 use Rattle.mrc_compiler.specs.declared.ast.OptionDataSize.the-variants as OD
 use Rattle.mrc_compiler.specs.declared.ast.OptionSegment.the-variants as OG
 use Rattle.mrc_compiler.specs.declared.ast.Segment.the-variants as Sr
-use Rattle.mrc_compiler.specs.Operations.{numberOf}
-use Rattle.mrc_compiler.specs.Builders.{immediateOperand, farOperand, registerOperand, segmentOperand, directOperand, indirectOperand, noOperands, oneOperand, twoOperands}
+use Rattle.mrc_compiler.specs.Operations.{numberOf, isString}
+use Rattle.mrc_compiler.specs.Builders.{immediateOperand, farOperand, registerOperand, segmentOperand, directOperand, indirectOperand, noOperands, oneOperand, twoOperands, withRepeat}
 use Rattle.x86.specs.Forms.{forms}
-use Rattle.x86.specs.Reading.{prefix}
+use Rattle.x86.specs.Reading.{prefix, isRepeat}
 use Rattle.encode_groups.specs.Grouping.{groupedOf}
 use Rattle.encode_spec.specs.WellFormed.{wellFormed}
 use Rattle.encode_spec.specs.Choice.{formsOf}
@@ -98,13 +98,19 @@ abbrev withTwo : Operation → OperandData → OperandData → InstructionData
 withTwo op a b = twoOperands one op a b
 
 abbrev three-operands : InstructionData
-three-operands = record { operation = Op.NOP; «num_opers» = 3; opers = without Op.NOP .opers; «opers_span» = one }
+three-operands = record { operation = Op.NOP; «num_opers» = 3; repeat = 0; opers = without Op.NOP .opers; «opers_span» = one }
 
 -- what is printed: opcode, /n, how many operands, limits
 abbrev form : ℕ → Digit → ℕ → Limits → Ground
 form c d n l = G.Form (record { opcode = c; digit = d; operands = n; limits = l })
 
 pub record Rows (off : ℕ) : Type 0 where
+  -- No. 11: the string operation's opcode behind a repeat
+  pub rep-movsb : ground (withRepeat 0xF3 (without Op.MOVSB)) off ≡ form 0xA4 D.None 0 L.None
+  pub repne-scasw : ground (withRepeat 0xF2 (without Op.SCASW)) off ≡ form 0xAF D.None 0 L.None
+  pub rep : ground (without Op.REP) off ≡ form 0xF3 D.None 0 L.None
+  pub rep-esc : ground (withRepeat 0xF3 (without Op.ESC)) off ≡ G.Question 1
+  pub repeat-99 : ground (withRepeat 99 (without Op.MOVSB)) off ≡ G.Question 1
   pub add-bx-5 : ground (withTwo Op.ADD (word 3) (imm (pos 5))) off ≡ form 0x83 (D.Is 0) 2 (L.Between (negsuc 127) (pos 127))
   pub cmp-word-bx-minus-1 : ground (withTwo Op.CMP (at-bx (OD.Some Z.Word)) (imm (negsuc 0))) off ≡ form 0x83 (D.Is 7) 2 (L.Between (negsuc 127) (pos 127))
   pub add-ax-200 : ground (withTwo Op.ADD (word 0) (imm (pos 200))) off ≡ form 0x05 D.None 2 (L.Between (negsuc 32767) (pos 65535))
@@ -186,8 +192,13 @@ pub record Rows (off : ℕ) : Type 0 where
   pub in-al-256 : ground (withTwo Op.IN (byte 0) (imm (pos 256))) off ≡ G.Question 6
 
 pub rows : (off : ℕ) → Rows off
-unfolding ground questions wellFormed prefix groupedOf formsOf forms numberOf
+unfolding ground questions wellFormed prefix isRepeat isString groupedOf formsOf forms numberOf
 rows off = record {
+  rep-movsb = refl;
+  repne-scasw = refl;
+  rep = refl;
+  rep-esc = refl;
+  repeat-99 = refl;
   add-bx-5 = refl;
   cmp-word-bx-minus-1 = refl;
   add-ax-200 = refl;

@@ -14,9 +14,10 @@ use Rattle.mrc_compiler.specs.declared.encoder.InstructionData.{InstructionData
 use Rattle.mrc_compiler.specs.declared.encoder.OperandData.{OperandData}
 use Rattle.mrc_compiler.specs.declared.operations.Operation.{Operation}
 use Rattle.mrc_compiler.specs.Choose.{pick, both, either, isnt}
+use Rattle.mrc_compiler.specs.Operations.{isString}
 use Rattle.x86.specs.Forms.{Extension, Form, forms}
 use Rattle.x86.specs.Forms as F
-use Rattle.x86.specs.Reading.{startingWith, hasSecond, secondFits, digit, prefix}
+use Rattle.x86.specs.Reading.{startingWith, hasSecond, secondFits, digit, prefix, isRepeat}
 use Rattle.x86.proofs.Tests.{both-left, both-right, same, same-is, upTo, upTo-at, eachOf, each-at, is-true}
 use Rattle.encode_groups.specs.declared.Group.{Group}
 use Rattle.encode_groups.specs.Grouping.{groupedOf, groupOf}
@@ -25,22 +26,24 @@ use Rattle.encode_run.specs.Run.{emptyRun, appended}
 use Rattle.encode_codes.specs.declared.Emitted.{Emitted}
 use Rattle.encode_codes.specs.Emit.{emitted}
 use Rattle.encode_spec.specs.Records.{dst, src}
+use Rattle.encode_spec.specs.WellFormed.{repeatFormed}
 use Rattle.encode_spec.specs.Rules.{Special, ordinary, unordered, unordered-memory, by-count, target-first, not-supported, rule}
 use Rattle.encode_spec.specs.Choice.{Choice, none, straight, crossed, countBy, hasImmediate}
 use Rattle.encode_spec.specs.Layout.{Part, prefixBytes, part, layout}
 use Rattle.encode_spec.specs.Questions.{chosen, questions}
-use Rattle.encode_spec.specs.Answer.{First, all-yes, no, firstNo, bytes, refused, answered, written, answer}
+use Rattle.encode_spec.specs.Answer.{First, all-yes, no, firstNo, bytes, refused, answered, written, recordBytes, answer}
 use Rattle.encode_spec.proofs.Values.{false-true, both-true}
 use Rattle.encode_spec.proofs.Slots.{by-field}
 use Rattle.encode_spec.proofs.Front.{secondBytes, among, no-prefix-byte}
-use Rattle.encode_spec.proofs.ReadBack.{Begun, begun, begun-opcode}
-use Rattle.encode_spec.proofs.Accepted.{gives-bytes, accepted-reads, Chosen, ChosenAs, chosen-is, arranged-is, operation-is}
+use Rattle.encode_spec.proofs.ReadBack.{Begun, string-in-order, begun, begun-opcode}
+use Rattle.encode_spec.proofs.Accepted.{gives-bytes, accepted-reads, Chosen, ChosenAs, chosen-is, repeat-yes, arranged-is, operation-is}
 use Rattle.encode_form.specs.declared.Limits.{Limits}
 use Rattle.encode_form.specs.declared.Limits.the-variants as L
 use Rattle.encode_form.specs.declared.Ground.the-variants as N
 use Rattle.encode_form.specs.declared.Written.{Written}
 use Rattle.encode_form.specs.Ground.{digitOf, limitsIn, orElse, uses, writtenBy, writtenAs, groundBy, ground}
-use Rattle.encode_form.specs.ByBytes.{hasDigit, digitAt, limitsBy, operandsIn, writtenAt, writtenFrom, writtenIn, questionBy}
+use Rattle.encode_form.specs.ByBytes.{hasDigit, digitAt, limitsBy, operandsIn, writtenAt, writtenFrom, opcodePlace, writtenIn, questionBy}
+use Rattle.encode_form.specs.Grounds.{bytesBy}
 use Rattle.encode_form.proofs.Questions.{told}
 
 -- ---- equal limits, as a test
@@ -193,10 +196,10 @@ module _ (insn : InstructionData) (off : ℕ) (h : off < 65536) (f : Form) (x y 
   abbrev behind : List ℕ
   behind = secondBytes (f .extension) (b .x) ++ b .rest
 
-  from-found : (i : Bool) → eqb (b .p) 0 ≡ i → either i (prefix (b .p)) ≡ true
+  from-found : (i : Bool) → either i (prefix (b .p)) ≡ true → eqb (insn .repeat) 0 ≡ true
       → writtenIn (pick i [] (b .p ∷ []) ++ (b .c ∷ behind)) insn ≡ writtenAt (b .c) (getD behind 0 0) insn
-  from-found true e q = rw (no-prefix-byte 0 (b .p) (b .c) (b .x) (b .rest) f (b .begins) (prefix (b .c)) refl) refl
-  from-found false e q = rw q refl
+  from-found true q z = rw (z, no-prefix-byte 0 (b .p) (b .c) (b .x) (b .rest) f (b .begins) (prefix (b .c)) refl) refl
+  from-found false q z = rw (z, q) refl
 
   -- what stands behind it fits the form
   second-found : secondFits (f .extension) (getD behind 0 0) ≡ true
@@ -210,8 +213,16 @@ module _ (insn : InstructionData) (off : ℕ) (h : off < 65536) (f : Form) (x y 
       go (F./ n) z q = q
       go F.0A z q = q
 
-  form-found : writtenIn (layout f off x y) insn ≡ writtenBy g f x y
-  form-found = rw (b .in-order) (from-found (eqb (b .p) 0) refl (b .prefixed) ∙ at-found (getD behind 0 0) second-found)
+  -- or behind the repeat, which stands before a string operation
+  form-found : repeatFormed (insn .repeat) (insn .operation) ≡ true → writtenIn (bytesBy insn off f x y) insn ≡ writtenBy g f x y
+  form-found w = go (eqb (insn .repeat) 0) refl w ∙ at-found (getD behind 0 0) second-found
+    where
+      go : (i : Bool) → eqb (insn .repeat) 0 ≡ i → either i (both (isRepeat (insn .repeat)) (isString (insn .operation))) ≡ true
+          → writtenIn (pick i [] (insn .repeat ∷ []) ++ layout f off x y) insn ≡ writtenAt (b .c) (getD behind 0 0) insn
+      go true z w = rw (b .in-order) (from-found (eqb (b .p) 0) (b .prefixed) z)
+      go false z w =
+          let s = both-true (isRepeat (insn .repeat)) (isString (insn .operation)) w .1 in
+          rw (z, string-in-order f (layout f off x y) (rw same-operation s) b) refl
 
 -- ---- the run that is emitted has zeros behind its bytes
 pad : (bs : List ℕ) (n i : ℕ) → getD (bs ++ replicate n 0) i 0 ≡ getD bs i 0
@@ -235,20 +246,22 @@ run-bytes (a ∷ b ∷ c ∷ d ∷ e ∷ f ∷ g ∷ x ∷ bs) h = absurd (omega
 in-run : (bs : List ℕ) (insn : InstructionData) → length bs ≤ 7 → writtenIn (appended emptyRun bs .bytes) insn ≡ writtenIn bs insn
 in-run bs insn h =
     let (n, e) = run-bytes bs h in
-    rw (e, pad bs n 0, pad bs n (pick (prefix (getD bs 0 0)) 1 0), pad bs n (suc (pick (prefix (getD bs 0 0)) 1 0))) refl
+    let i = opcodePlace (insn .repeat) (getD bs 0 0) in
+    rw (e, pad bs n 0, pad bs n i, pad bs n (suc i)) refl
 
 -- ---- a record
 module _ (insn : InstructionData) (off : ℕ) (h : off < 65536) where
-  choice-found : (c : Choice) → ChosenAs insn off c → writtenIn (written c off (dst insn) (src insn)) insn ≡ writtenAs (groupOf (insn .operation)) c (dst insn) (src insn)
-  choice-found none k = absurd k
-  choice-found (straight f) k = form-found insn off h f (dst insn) (src insn) k
-  choice-found (crossed f) (k, w) = form-found insn off h f (src insn) (dst insn) k
+  choice-found : repeatFormed (insn .repeat) (insn .operation) ≡ true → (c : Choice) → ChosenAs insn off c
+      → writtenIn (prefixBytes (insn .repeat) ++ written c off (dst insn) (src insn)) insn ≡ writtenAs (groupOf (insn .operation)) c (dst insn) (src insn)
+  choice-found r none k = absurd k
+  choice-found r (straight f) k = form-found insn off h f (dst insn) (src insn) k r
+  choice-found r (crossed f) (k, w) = form-found insn off h f (src insn) (dst insn) k r
 
   pub form-of-list : (bs : List ℕ) → answer insn off ≡ bytes bs → ground insn off ≡ N.Form (writtenIn bs insn)
   unfolding answer ground
   form-of-list bs e =
-      let (y, w) = gives-bytes (firstNo (questions insn off)) (written (chosen insn) off (dst insn) (src insn)) bs e in
-      rw (y, ← w, choice-found (chosen insn) (chosen-is insn off y)) refl
+      let (y, w) = gives-bytes (firstNo (questions insn off)) (recordBytes insn off) bs e in
+      rw (y, ← w, choice-found (repeat-yes insn off y) (chosen insn) (chosen-is insn off y)) refl
 
   -- by the run that is emitted for its bytes
   pub form-of-run : (d : Emitted) → d ≡ emitted emptyRun (answer insn off) → (bs : List ℕ) → answer insn off ≡ bytes bs → ground insn off ≡ N.Form (writtenIn (d .run .bytes) insn)
@@ -263,6 +276,6 @@ module _ (insn : InstructionData) (off : ℕ) (h : off < 65536) where
       w : Written
       w = writtenAs (groupOf (insn .operation)) (chosen insn) (dst insn) (src insn)
 
-      go : (r : First) → firstNo (questions insn off) ≡ r → answered r (written (chosen insn) off (dst insn) (src insn)) ≡ refused x → groundBy r w ≡ N.Question (questionBy x insn)
+      go : (r : First) → firstNo (questions insn off) ≡ r → answered r (recordBytes insn off) ≡ refused x → groundBy r w ≡ N.Question (questionBy x insn)
       go all-yes h q = let z : _≡_ {A = ℕ} 0 1 = cc in absurd (omega arith)
       go (no q) h r = let z : q .refusal ≡ x = cc in rw (← z, told insn off .tells q h) refl

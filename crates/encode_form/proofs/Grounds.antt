@@ -11,11 +11,12 @@ use lib.ListN.{length, getD}
 use borrow.Author.Tests.{eqb-true, eqb-false}
 use Rattle.mrc_compiler.specs.declared.encoder.InstructionData.{InstructionData}
 use Rattle.mrc_compiler.specs.declared.encoder.OperandData.{OperandData}
-use Rattle.mrc_compiler.specs.Choose.{pick, both, either}
+use Rattle.mrc_compiler.specs.Choose.{pick, both, either, isnt}
 use Rattle.x86_forms.specs.declared.FormName.{FormName}
 use Rattle.x86.specs.Forms.{Form}
 use Rattle.x86.specs.Forms as F
-use Rattle.x86.specs.Reading.{some, startingWith, fitting, hasSecond, prefix}
+use Rattle.x86.specs.Reading.{some, startingWith, fitting, hasSecond, prefix, repeats}
+use Rattle.x86.proofs.Repeats.{repeats-by}
 use Rattle.x86.proofs.Unambiguous.{at-90, second-agrees}
 use Rattle.encode_groups.specs.Grouping.{groupOf}
 use Rattle.encode_spec.specs.Records.{dst, src}
@@ -30,9 +31,9 @@ use Rattle.encode_spec.proofs.ReadBack.{Reads, Begun, begun, begun-opcode}
 use Rattle.encode_spec.proofs.Accepted.{Chosen, ChosenAs, chosen-is, arranged-is, operation-is, all-yes-reads}
 use Rattle.read_table.specs.Rows.{named, nameOf}
 use Rattle.reader.specs.declared.Decoded.the-variants.{Whole}
-use Rattle.reader.specs.Answer.{firstOf, formBehind, formOf, decoded}
+use Rattle.reader.specs.Answer.{firstOf, formBehind, formPlain, formOf, decoded}
 use Rattle.encode_form.specs.Ground.{writtenBy, writtenAs, groundBy, ground}
-use Rattle.encode_form.specs.Grounds.{allYes, RefusedBy, ReadsBy, OperandsOf, WrittenIn, Grounded}
+use Rattle.encode_form.specs.Grounds.{allYes, RefusedBy, ReadsBy, OperandsOf, bytesBy, WrittenIn, Grounded}
 
 -- ---- the first no of a list: those before it get yes
 record Splits (qs : List Asked) (q : Asked) : Type 0 where
@@ -76,21 +77,30 @@ module _ (f : Form) (bs : List ℕ) (b : Begun f bs) where
   at-90-is e = rw (e, at-90) refl
 
   -- a prefix is passed over
-  own-form : (m : FormName) → formBehind (b .c ∷ (secondBytes (f .extension) (b .x) ++ b .rest)) ≡ m → formOf bs ≡ m
+  own-form : (m : FormName) → formBehind (b .c ∷ (secondBytes (f .extension) (b .x) ++ b .rest)) ≡ m → formPlain bs ≡ m
   own-form m e = rw (b .in-order) (go (eqb (b .p) 0) (b .prefixed))
     where
       s : List ℕ
       s = b .c ∷ (secondBytes (f .extension) (b .x) ++ b .rest)
 
-      go : (i : Bool) → either i (prefix (b .p)) ≡ true → formOf (pick i [] (b .p ∷ []) ++ s) ≡ m
+      go : (i : Bool) → either i (prefix (b .p)) ≡ true → formPlain (pick i [] (b .p ∷ []) ++ s) ≡ m
       go true h = rw (no-prefix-byte 0 (b .p) (b .c) (b .x) (b .rest) f (b .begins) (prefix (b .c)) refl) e
       go false h = rw h e
 
+-- ---- the repeat is passed over
+behind-repeat : (p : ℕ) (s : List ℕ) → repeats (prefixBytes p ++ s) ≡ isnt (eqb p 0) → formOf (prefixBytes p ++ s) ≡ formPlain s
+behind-repeat p s e = go (eqb p 0) s e
+  where
+    go : (i : Bool) (s : List ℕ) → repeats (pick i [] (p ∷ []) ++ s) ≡ isnt i → formOf (pick i [] (p ∷ []) ++ s) ≡ formPlain s
+    go true [] e = refl
+    go true (b ∷ s) e = rw e refl
+    go false s e = rw e refl
+
 -- ---- every record at every offset
 module _ (insn : InstructionData) (off : ℕ) (h : off < 65536) where
-  read-by : (f : Form) (x y : OperandData) → Chosen insn off f x y → Reads off (meaning insn) (layout f off x y)
-      → ReadsBy off (layout f off x y) (meaning insn) (nameOf f)
-      ⊎ ((writtenBy (groupOf (insn .operation)) f x y .opcode ≡ 0x90) × ReadsBy off (layout f off x y) (meaning insn) (named 0x90 F.+r))
+  read-by : (f : Form) (x y : OperandData) → Chosen insn off f x y → Reads off (meaning insn) (bytesBy insn off f x y)
+      → ReadsBy off (bytesBy insn off f x y) (meaning insn) (nameOf f)
+      ⊎ ((writtenBy (groupOf (insn .operation)) f x y .opcode ≡ 0x90) × ReadsBy off (bytesBy insn off f x y) (meaning insn) (named 0x90 F.+r))
   unfolding decoded
   read-by f x y k r = go (eqb (b .c) 0x90) refl
     where
@@ -100,17 +110,22 @@ module _ (insn : InstructionData) (off : ℕ) (h : off < 65536) where
       opcode-is : b .c ≡ writtenBy (groupOf (insn .operation)) f x y .opcode
       opcode-is = begun-opcode f (k .listed) (arranged-is insn off f x y k) off h x y (k .first) (k .second)
 
-      by : (m : FormName) → formBehind (b .c ∷ (secondBytes (f .extension) (b .x) ++ b .rest)) ≡ m → ReadsBy off (layout f off x y) (meaning insn) m
-      by m e = rw (r .reads-it, own-form f (layout f off x y) b m e)
+      by : (m : FormName) → formBehind (b .c ∷ (secondBytes (f .extension) (b .x) ++ b .rest)) ≡ m → ReadsBy off (bytesBy insn off f x y) (meaning insn) m
+      by m e =
+          rw (
+            r .reads-it,
+            behind-repeat (insn .repeat) (layout f off x y) (repeats-by off (bytesBy insn off f x y) (meaning insn) _ (r .reads-it)),
+            own-form f (layout f off x y) b m e,
+          )
 
       go : (i : Bool) → eqb (b .c) 0x90 ≡ i
-          → ReadsBy off (layout f off x y) (meaning insn) (nameOf f)
-          ⊎ ((writtenBy (groupOf (insn .operation)) f x y .opcode ≡ 0x90) × ReadsBy off (layout f off x y) (meaning insn) (named 0x90 F.+r))
+          → ReadsBy off (bytesBy insn off f x y) (meaning insn) (nameOf f)
+          ⊎ ((writtenBy (groupOf (insn .operation)) f x y .opcode ≡ 0x90) × ReadsBy off (bytesBy insn off f x y) (meaning insn) (named 0x90 F.+r))
       go true e = let z = eqb-true (b .c) 0x90 e in inr (sym opcode-is ∙ z, by (named 0x90 F.+r) (at-90-is f (layout f off x y) b z))
       go false e = inl (by (nameOf f) (behind-is f (layout f off x y) b (eqb-false (b .c) 0x90 e)))
 
-  written-in : (f : Form) (x y : OperandData) → OperandsOf insn x y → Chosen insn off f x y → answer insn off ≡ bytes (layout f off x y)
-      → Reads off (meaning insn) (layout f off x y) → WrittenIn insn off (writtenBy (groupOf (insn .operation)) f x y)
+  written-in : (f : Form) (x y : OperandData) → OperandsOf insn x y → Chosen insn off f x y → answer insn off ≡ bytes (bytesBy insn off f x y)
+      → Reads off (meaning insn) (bytesBy insn off f x y) → WrittenIn insn off (writtenBy (groupOf (insn .operation)) f x y)
   written-in f x y o k e r =
       record {
         form = f;
@@ -126,7 +141,8 @@ module _ (insn : InstructionData) (off : ℕ) (h : off < 65536) where
         read-by = read-by f x y k r;
       }
 
-  choice-in : (c : Choice) → ChosenAs insn off c → answer insn off ≡ bytes (written c off (dst insn) (src insn)) → Reads off (meaning insn) (written c off (dst insn) (src insn))
+  choice-in : (c : Choice) → ChosenAs insn off c → answer insn off ≡ bytes (prefixBytes (insn .repeat) ++ written c off (dst insn) (src insn))
+      → Reads off (meaning insn) (prefixBytes (insn .repeat) ++ written c off (dst insn) (src insn))
       → WrittenIn insn off (writtenAs (groupOf (insn .operation)) c (dst insn) (src insn))
   choice-in none k e r = absurd k
   choice-in (straight f) k e r = written-in f (dst insn) (src insn) (inl (refl, refl)) k e r

@@ -27,7 +27,7 @@ use Rattle.encode_spec.specs.Operands.{ifImm, ifRm}
 use Rattle.encode_spec.specs.Rules.{Sizing, unasked, either-states, first-states, first-is-word, Refusal, refusal, at-operands, at-first, isWord, rule}
 use Rattle.encode_spec.specs.Choice.{Choice, none, straight, crossed}
 use Rattle.encode_spec.specs.Limits.{Kind, sign-extended, address, target, segment, byteKind, wordKind, Asked, asked, inLimits, shortDistance, ofSlot}
-use Rattle.encode_spec.specs.WellFormed.{wellFormed}
+use Rattle.encode_spec.specs.WellFormed.{wellFormed, repeatFormed}
 use Rattle.encode_spec.specs.Questions.{Ask, errorOf, statedBy, sizeStated, sizesAgree, targetAsked, formFound, isSupported, formAsked, chosen, questions}
 use Rattle.encode_spec.specs.Answer.{First, all-yes, no, firstNo}
 use Rattle.encode_spec.proofs.Values.{false-true}
@@ -181,9 +181,10 @@ module _ (insn : InstructionData) where
       then {q = asked 1 (leb (insn .«num_opers») 2) (e (insn .«opers_span»))} (λ h. refl)
       (λ h. then {q = asked 1 (wellFormed a) (e (a .span))} (λ h. refl)
       (λ h. then {q = asked 1 (wellFormed b) (e (b .span))} (λ h. refl)
+      (λ h. then {q = asked 1 (repeatFormed (insn .repeat) (insn .operation)) (E.InvalidRepeat (insn .«opers_span»))} (λ h. refl)
       (λ h. then {q = asked 2 (isSupported g) (E.NotSupported (insn .«opers_span»))} (λ h. refl)
       (λ h. then {q = at-span (sizeStated g a b)} (size-told (rule g .sizing) b (given g .sized))
       (λ stated. then {q = at-span (sizesAgree g a b)} (λ h. refl)
       (λ h. then {q = at-span (targetAsked g a)} (λ h. refl)
       (λ h. then {q = at-span (formFound g (chosen insn) a b)} (λ h. formless g b stated)
-      (λ h. form-told g (chosen insn) off a b))))))))
+      (λ h. form-told g (chosen insn) off a b)))))))))

@@ -90,12 +90,15 @@ writtenAt c x insn =
       limits = limitsBy c (eqb (digit x) 0);
     }
 
--- the opcode stands behind a prefix, or first
+-- the opcode stands behind a repeat or a prefix, or first
+abbrev pub opcodePlace : ℕ → ℕ → ℕ
+opcodePlace repeat b = pick (eqb repeat 0) (pick (prefix b) 1 0) 1
+
 abbrev pub writtenFrom : ℕ → List ℕ → InstructionData → Written
 writtenFrom at bs insn = writtenAt (getD bs at 0) (getD bs (suc at) 0) insn
 
 abbrev pub writtenIn : List ℕ → InstructionData → Written
-writtenIn bs insn = writtenFrom (pick (prefix (getD bs 0 0)) 1 0) bs insn
+writtenIn bs insn = writtenFrom (opcodePlace (insn .repeat) (getD bs 0 0)) bs insn
 
 -- the question of a refusal: 4 is question 5's where the size was stated
 abbrev pub questionBy : EncodeError → InstructionData → ℕ
@@ -107,4 +110,5 @@ questionBy (E.ImmediateOutOfRange s v l h) insn = 6
 questionBy (E.RelativeJumpOutOfRange s z b d) insn = 7
 questionBy (E.NotSupported s) insn = 2
 questionBy (E.NotWellFormed s) insn = 1
+questionBy (E.InvalidRepeat s) insn = 1
 questionBy (E.SliceTooShort s) insn = 8

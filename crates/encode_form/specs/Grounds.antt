@@ -16,7 +16,7 @@ use Rattle.x86.specs.Forms as F
 use Rattle.encode_groups.specs.Grouping.{groupOf}
 use Rattle.encode_spec.specs.Records.{dst, src}
 use Rattle.encode_spec.specs.Choice.{takes, sizeIn}
-use Rattle.encode_spec.specs.Layout.{layout}
+use Rattle.encode_spec.specs.Layout.{prefixBytes, layout}
 use Rattle.encode_spec.specs.Limits.{Asked}
 use Rattle.encode_spec.specs.Meaning.{meaning}
 use Rattle.encode_spec.specs.Questions.{questions}
@@ -52,6 +52,10 @@ ReadsBy off s m f = decoded off s ≡ Whole m f (length s)
 abbrev pub OperandsOf : InstructionData → OperandData → OperandData → Type 0
 OperandsOf insn a b = ((a ≡ dst insn) × (b ≡ src insn)) ⊎ ((a ≡ src insn) × (b ≡ dst insn))
 
+-- the bytes of a form with the operands a and b, behind the record's repeat
+abbrev pub bytesBy : InstructionData → ℕ → Form → OperandData → OperandData → List ℕ
+bytesBy insn off f a b = prefixBytes (insn .repeat) ++ layout f off a b
+
 -- the record is written by a form of the table, which takes its operands and by which the bytes read. The byte 90 is that of two forms, which are the same
 -- instruction: it reads as XCHG's, 90 +r, also where it is written for NOP
 pub record WrittenIn (insn : InstructionData) (off : ℕ) (w : Written) : Type 0 where
@@ -64,8 +68,8 @@ pub record WrittenIn (insn : InstructionData) (off : ℕ) (w : Written) : Type 0
   pub takes-first : takes (form .first) (sizeIn (groupOf (insn .operation)) (dst insn) (src insn) first) first ≡ true
   pub takes-second : takes (form .second) (sizeIn (groupOf (insn .operation)) (dst insn) (src insn) second) second ≡ true
   pub is-written : w ≡ writtenBy (groupOf (insn .operation)) form first second
-  pub its-bytes : answer insn off ≡ bytes (layout form off first second)
-  pub read-by : ReadsBy off (layout form off first second) (meaning insn) (nameOf form) ⊎ ((w .opcode ≡ 0x90) × ReadsBy off (layout form off first second) (meaning insn) (named 0x90 F.+r))
+  pub its-bytes : answer insn off ≡ bytes (bytesBy insn off form first second)
+  pub read-by : ReadsBy off (bytesBy insn off form first second) (meaning insn) (nameOf form) ⊎ ((w .opcode ≡ 0x90) × ReadsBy off (bytesBy insn off form first second) (meaning insn) (named 0x90 F.+r))
 
 abbrev pub Grounded : InstructionData → ℕ → Ground → Type 0
 Grounded insn off (G.Form w) = WrittenIn insn off w

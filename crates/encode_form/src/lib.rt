@@ -1,7 +1,8 @@
 // The form by which a record is written, or the question that refused it (REFERENCE 9): what `fsqform` prints.
 ghost use mathlib.Core.Path.{_≡_};
+ghost use Prim.Native.Nat.{_≤_};
 ghost use Rattle.encode_form.specs.Ground.{ground};
-ghost use Rattle.encode_form.specs.ByBytes.{hasDigit, digitAt, dataLimits, limitsBy, operandsIn, writtenIn, questionBy};
+ghost use Rattle.encode_form.specs.ByBytes.{hasDigit, digitAt, dataLimits, limitsBy, operandsIn, opcodePlace, writtenIn, questionBy};
 use encode_fields::Refusal;
 use encode_groups::Group;
 use encode_run::ByteRun;
@@ -172,7 +173,19 @@ fn operands_of(group: Group, counts_none: bool) -> u8
     }
 }
 
-// The form of a record that is accepted, read off the bytes that are written for it: the opcode stands behind the prefix.
+// Where the opcode stands behind a repeat (0: none), with the first byte.
+fn opcode_place(repeat: u8, first: u8) -> usize
+    ensures { λ r. ⌜ r ≡ opcodePlace repeat first ⌝ }
+    ensures small { λ r. ⌜ r ≤ 1 ⌝ }
+{
+    if repeat == 0 {
+        reader::opcode_start(first)
+    } else {
+        1
+    }
+}
+
+// The form of a record that is accepted, read off the bytes that are written for it.
 pub fn written_in(run: ByteRun, insn: InstructionData) -> Written
     ensures { λ r. ⌜ r ≡ writtenIn (run .bytes) insn ⌝ }
 {
@@ -180,7 +193,7 @@ pub fn written_in(run: ByteRun, insn: InstructionData) -> Written
     let grouped = encode_groups::group_of(operation);
     let group = grouped.group;
     let first = run.bytes[0];
-    let at = reader::opcode_start(first);
+    let at = opcode_place(insn.repeat, first);
     let opcode = run.bytes[at];
     let modrm = run.bytes[at + 1];
     Written {
@@ -199,6 +212,7 @@ pub fn question_of(error: EncodeError, insn: InstructionData) -> u8
     let size = dst.size;
     match error {
         EncodeError::NotWellFormed(_) => 1,
+        EncodeError::InvalidRepeat(_) => 1,
         EncodeError::NotSupported(_) => 2,
         EncodeError::OperandSizeNotSpecified(_) => 3,
         EncodeError::InvalidOperandSize(_) => match size {

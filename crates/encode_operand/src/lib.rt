@@ -1,14 +1,16 @@
-// Question 1: is an operand well formed?
+// Question 1: is an operand well formed, and the repeat?
 ghost use mathlib.Core.Path.{_≡_};
 ghost use lib.Dec.{eqb};
 ghost use Rattle.x86.specs.Reading.{displacementLength};
 ghost use Prim.Native.Nat.{_<_};
 ghost use mathlib.Core.Bool.{true, false};
 ghost use Rattle.mrc_compiler.specs.Choose.{bySize};
-ghost use Rattle.encode_spec.specs.WellFormed.{isPrefix, bytesOf, displacementIn, immediateFormed, registerFormed, segmentFormed, memoryFormed, wellFormed};
+ghost use Rattle.mrc_compiler.specs.Operations.{isString};
+ghost use Rattle.encode_spec.specs.WellFormed.{isPrefix, bytesOf, displacementIn, immediateFormed, registerFormed, segmentFormed, memoryFormed, wellFormed, repeatFormed};
 use mrc_compiler::encoder::OperandData;
 use mrc_compiler::encoder::OperandKind;
 use mrc_compiler::encoder::OperandSize;
+use mrc_compiler::operations::Operation;
 
 fn bytes_of(size: OperandSize) -> u8
     ensures { λ r. ⌜ r ≡ bytesOf size ⌝ }
@@ -176,5 +178,30 @@ pub fn is_well_formed(oper: OperandData) -> bool
         OperandKind::Reg => register_is_well_formed(oper),
         OperandKind::Seg => segment_is_well_formed(oper),
         OperandKind::Mem => memory_is_well_formed(oper),
+    }
+}
+
+// MOVSB to STOSW, which stand one behind the other among the operations.
+fn is_string(operation: Operation) -> bool
+    ensures { λ r. ⌜ r ≡ isString operation ⌝ }
+{
+    let n = operation.number();
+    if n < 48 {
+        return false;
+    }
+    n <= 57
+}
+
+// No repeat, or one before a string operation.
+pub fn is_repeat_well_formed(repeat: u8, operation: Operation) -> bool
+    ensures { λ r. ⌜ r ≡ repeatFormed repeat operation ⌝ }
+{
+    if repeat == 0 {
+        return true;
+    }
+    if x86::is_repeat(repeat) {
+        is_string(operation)
+    } else {
+        false
     }
 }

@@ -1,38 +1,40 @@
 -- What encode accepts reads back as what the record means (demand 2): for every record and every offset below 65,536.
 -- Assumes nothing.
-use mathlib.Core.Path.{_≡_, refl, subst}
+use mathlib.Core.Path.{_≡_, refl, sym, _∙_, subst}
 use Prim.Native.Nat.{ℕ, zero, suc, _<_}
 use native.Mathlib.Omega.{arith}
 use mathlib.Core.Bool.{Bool, true, false}
 use mathlib.Core.List.{List, [], _∷_, _++_, List·Memᴰ, List·Memᴰ·head, List·Memᴰ·tail}
-use lib.Dec.{T}
-use lib.ListN.{drop}
+use lib.Dec.{T, eqb}
+use lib.ListN.{length, drop}
+use borrow.Author.Tests.{eqb-true}
 use Rattle.mrc_compiler.specs.declared.encoder.InstructionData.{InstructionData}
 use Rattle.mrc_compiler.specs.declared.encoder.OperandData.{OperandData}
 use Rattle.mrc_compiler.specs.declared.encoder.OperandSize.{OperandSize}
 use Rattle.mrc_compiler.specs.declared.operations.Operation.{Operation}
-use Rattle.mrc_compiler.specs.Choose.{pick, both}
-use Rattle.mrc_compiler.specs.Operations.{sameOperation}
+use Rattle.mrc_compiler.specs.Choose.{pick, both, either}
+use Rattle.mrc_compiler.specs.Operations.{sameOperation, isString}
 use Rattle.x86.specs.declared.Instruction.{Instruction}
-use Rattle.x86.specs.Instructions.{canonical}
+use Rattle.x86.specs.Instructions.{canonical, repeated}
 use Rattle.x86.specs.Forms.{Slot, Form, forms}
-use Rattle.x86.specs.Reading.{keep, widthOf}
+use Rattle.x86.specs.Reading.{keep, widthOf, isRepeat, beginsString}
 use Rattle.x86.proofs.Tests.{kept, passed}
+use Rattle.x86.proofs.Repeats.{unrepeated, plain-repeat}
 use Rattle.encode_spec.specs.Records.{dst, src}
-use Rattle.encode_spec.specs.WellFormed.{wellFormed}
+use Rattle.encode_spec.specs.WellFormed.{wellFormed, repeatFormed}
 use Rattle.encode_groups.specs.declared.Group.{Group}
 use Rattle.encode_groups.specs.Grouping.{groupOf}
 use Rattle.encode_spec.specs.Rules.{rule}
-use Rattle.encode_spec.specs.Meaning.{meaning}
+use Rattle.encode_spec.specs.Meaning.{meant, meaning}
 use Rattle.encode_spec.specs.Choice.{Choice, none, straight, crossed, takes, sizeIn, choose, countBy, eitherWay, formsOf}
 use Rattle.encode_spec.specs.Layout.{layout}
 use Rattle.encode_spec.specs.Limits.{Asked, ofSlot}
 use Rattle.encode_spec.specs.Questions.{isForm, formAsked, chosen, questions}
-use Rattle.encode_spec.specs.Answer.{First, all-yes, no, firstNo, written, bytes, answered, answer}
+use Rattle.encode_spec.specs.Answer.{First, all-yes, no, firstNo, written, recordBytes, bytes, answered, answer}
 use Rattle.encode_spec.proofs.Values.{false-true, both-true}
 use Rattle.encode_spec.proofs.Slots.{holds, Given, yes}
 pub use Rattle.encode_spec.proofs.ReadBack.{Reads}
-use Rattle.encode_spec.proofs.ReadBack.{ArrangedForm, reads-back}
+use Rattle.encode_spec.proofs.ReadBack.{ReadsPlain, plain-reads, repeated-reads, string-begun, ArrangedForm, begun, reads-back}
 use Rattle.encode_spec.proofs.Meanings.{Leaf, all-at}
 use Rattle.encode_spec.proofs.Operations.{by-operation}
 
@@ -166,7 +168,12 @@ module _ (insn : InstructionData) (off : ℕ) where
   unfolding questions
   chosen-is e =
       let qs = questions insn off in
-      chosen-as (chosen insn) (picked (eitherWay g a b) (sizeIn g a b a) a (sizeIn g a b b) b counted-forms) (every qs e 1) (every qs e 2) (every qs e 7) (later qs e 8)
+      chosen-as (chosen insn) (picked (eitherWay g a b) (sizeIn g a b a) a (sizeIn g a b b) b counted-forms) (every qs e 1) (every qs e 2) (every qs e 8) (later qs e 9)
+
+  -- and the repeat is well formed
+  pub repeat-yes : firstNo (questions insn off) ≡ all-yes → repeatFormed (insn .repeat) op ≡ true
+  unfolding questions
+  repeat-yes e = every (questions insn off) e 3
 
   -- what is known of a form of the operation
   leaf : {f : Form} → List·Memᴰ f (formsOf op) → Leaf g op f
@@ -183,30 +190,62 @@ module _ (insn : InstructionData) (off : ℕ) where
   -- ---- its bytes read back
   module _ (h : off < 65536) where
     form-reads : (f : Form) (x y : OperandData) → Chosen insn off f x y
-        → Reads off (canonical op (widthOf f) (holds (f .first) x) (holds (f .second) y)) (layout f off x y)
+        → ReadsPlain off (canonical op (widthOf f) (holds (f .first) x) (holds (f .second) y)) (layout f off x y)
     form-reads f x y k =
-        subst (λ (o : Operation). Reads off (canonical o (widthOf f) (holds (f .first) x) (holds (f .second) y)) (layout f off x y)) (operation-is f x y k)
+        subst (λ (o : Operation). ReadsPlain off (canonical o (widthOf f) (holds (f .first) x) (holds (f .second) y)) (layout f off x y)) (operation-is f x y k)
         (reads-back f (k .listed) (arranged-is f x y k) off h x y (k .first) (k .second))
 
-    crossed-means : (f : Form) → Chosen insn off f b a → eitherWay g a b ≡ true → canonical op (widthOf f) (holds (f .first) b) (holds (f .second) a) ≡ meaning insn
+    crossed-means : (f : Form) → Chosen insn off f b a → eitherWay g a b ≡ true → canonical op (widthOf f) (holds (f .first) b) (holds (f .second) a) ≡ meant g (insn .«num_opers») op a b
     unfolding formsOf
     crossed-means f k w = all-at (by-operation op .crosses) (k .of-operation) .crossed (insn .«num_opers») a b w (k .first-takes) (k .second-takes)
 
     -- as what the record means, where the form has the operands as they stand, and where they are crossed
-    choice-reads : (c : Choice) → ChosenAs insn off c → Reads off (meaning insn) (written c off a b)
+    choice-reads : (c : Choice) → ChosenAs insn off c → ReadsPlain off (meant g (insn .«num_opers») op a b) (written c off a b)
     choice-reads none k = absurd k
     choice-reads (straight f) k =
-        subst (λ (m : Instruction). Reads off m (layout f off a b)) (leaf (k .of-operation) .means (insn .«num_opers») a b (k .counted) (k .first-takes) (k .second-takes))
+        subst (λ (m : Instruction). ReadsPlain off m (layout f off a b)) (leaf (k .of-operation) .means (insn .«num_opers») a b (k .counted) (k .first-takes) (k .second-takes))
         (form-reads f a b k)
     choice-reads (crossed f) (k, w) =
-        subst (λ (m : Instruction). Reads off m (layout f off b a)) (crossed-means f k w) (form-reads f b a k)
+        subst (λ (m : Instruction). ReadsPlain off m (layout f off b a)) (crossed-means f k w) (form-reads f b a k)
 
-    pub all-yes-reads : firstNo (questions insn off) ≡ all-yes → Reads off (meaning insn) (written (chosen insn) off a b)
-    all-yes-reads e = choice-reads (chosen insn) (chosen-is e)
+    -- a string operation's begin with its opcode
+    form-begins : (f : Form) (x y : OperandData) → Chosen insn off f x y → isString op ≡ true → beginsString (layout f off x y) ≡ true
+    form-begins f x y k s =
+        string-begun f (layout f off x y) (rw (operation-is f x y k) s) (begun f (k .listed) (arranged-is f x y k) off h x y (k .first) (k .second))
+
+    choice-begins : (c : Choice) → ChosenAs insn off c → isString op ≡ true → beginsString (written c off a b) ≡ true
+    choice-begins none k s = absurd k
+    choice-begins (straight f) k s = form-begins f a b k s
+    choice-begins (crossed f) (k, w) s = form-begins f b a k s
+
+    -- with the repeat
+    repeat-reads : ChosenAs insn off (chosen insn) → repeatFormed (insn .repeat) op ≡ true → Reads off (meaning insn) (recordBytes insn off)
+    repeat-reads k f = go (eqb (insn .repeat) 0) refl f
+      where
+        m : Instruction
+        m = meant g (insn .«num_opers») op a b
+
+        bs : List ℕ
+        bs = written (chosen insn) off a b
+
+        r : ReadsPlain off m bs
+        r = choice-reads (chosen insn) k
+
+        go : (i : Bool) → eqb (insn .repeat) 0 ≡ i → either i (both (isRepeat (insn .repeat)) (isString op)) ≡ true
+            → Reads off (repeated (insn .repeat) m) (pick i [] (insn .repeat ∷ []) ++ bs)
+        go true e f =
+            let z : repeated (insn .repeat) m ≡ m = unrepeated (insn .repeat) m (eqb-true (insn .repeat) 0 e ∙ sym (plain-repeat off bs m (length bs) (r .reads-it))) in
+            rw z (plain-reads off m bs r)
+        go false e f =
+            let (p, s) = both-true (isRepeat (insn .repeat)) (isString op) f in
+            repeated-reads off (insn .repeat) m bs p (choice-begins (chosen insn) k s) r
+
+    pub all-yes-reads : firstNo (questions insn off) ≡ all-yes → Reads off (meaning insn) (recordBytes insn off)
+    all-yes-reads e = repeat-reads (chosen-is e) (repeat-yes e)
 
 -- what encode accepts at an offset below 65,536 reads as what the record means, to the last byte, in 1 to 7 bytes
 pub accepted-reads : (insn : InstructionData) (off : ℕ) → off < 65536 → (bs : List ℕ) → answer insn off ≡ bytes bs → Reads off (meaning insn) bs
 unfolding answer
 accepted-reads insn off h bs e =
-    let (y, w) = gives-bytes (firstNo (questions insn off)) (written (chosen insn) off (dst insn) (src insn)) bs e in
+    let (y, w) = gives-bytes (firstNo (questions insn off)) (recordBytes insn off) bs e in
     subst (Reads off (meaning insn)) w (all-yes-reads insn off h y)

@@ -1,4 +1,4 @@
--- The bench sheet's encoder rows (document 01) and those of document 02's Nos. 1, 2 and 4, at every offset where the row names none. P marks the rows that 01 marks.
+-- The bench sheet's encoder rows (document 01) and those of document 02's Nos. 1, 2, 4 and 11, at every offset where the row names none. P marks the rows that 01 marks.
 -- Assumes nothing.
 use mathlib.Core.Path.{_≡_, refl}
 use mathlib.Core.Bool.{true}
@@ -21,10 +21,10 @@ use Rattle.mrc_compiler.specs.declared.encoder.OperandData.{OperandData}
 use Rattle.mrc_compiler.specs.declared.encoder.OperandSize.the-variants as S
 use Rattle.mrc_compiler.specs.declared.operations.Operation.{Operation}
 use Rattle.mrc_compiler.specs.declared.operations.Operation.the-variants as Op
-use Rattle.mrc_compiler.specs.Operations.{numberOf}
-use Rattle.mrc_compiler.specs.Builders.{immediateOperand, farOperand, registerOperand, segmentOperand, directOperand, indirectOperand, instruction, noOperands, oneOperand, twoOperands}
+use Rattle.mrc_compiler.specs.Operations.{numberOf, isString}
+use Rattle.mrc_compiler.specs.Builders.{immediateOperand, farOperand, registerOperand, segmentOperand, directOperand, indirectOperand, instruction, noOperands, oneOperand, twoOperands, withRepeat}
 use Rattle.x86.specs.Forms.{forms}
-use Rattle.x86.specs.Reading.{prefix}
+use Rattle.x86.specs.Reading.{prefix, isRepeat}
 use Rattle.encode_spec.specs.WellFormed.{wellFormed}
 use Rattle.encode_groups.specs.Grouping.{groupedOf}
 use Rattle.encode_spec.specs.Choice.{formsOf}
@@ -176,10 +176,59 @@ pub record Rows (off : ℕ) : Type 0 where
   pub wait : answer (noOperands whole Op.WAIT) off ≡ bytes (0x9B ∷ [])
   pub int1 : answer (noOperands whole Op.INT1) off ≡ refused (E.NotSupported whole)
   pub esc : answer (noOperands whole Op.ESC) off ≡ refused (E.NotSupported whole)
+  -- No. 11: F2 or F3 before a string operation; else 23
+  pub rep-movsb : answer (withRepeat 0xF3 (noOperands whole Op.MOVSB)) off ≡ bytes (0xF3 ∷ 0xA4 ∷ [])
+  pub repne-scasb : answer (withRepeat 0xF2 (noOperands whole Op.SCASB)) off ≡ bytes (0xF2 ∷ 0xAE ∷ [])
+  pub repne-movsb : answer (withRepeat 0xF2 (noOperands whole Op.MOVSB)) off ≡ bytes (0xF2 ∷ 0xA4 ∷ [])
+  pub rep-movsw : answer (withRepeat 0xF3 (noOperands whole Op.MOVSW)) off ≡ bytes (0xF3 ∷ 0xA5 ∷ [])
+  pub rep-cmpsb : answer (withRepeat 0xF3 (noOperands whole Op.CMPSB)) off ≡ bytes (0xF3 ∷ 0xA6 ∷ [])
+  pub rep-cmpsw : answer (withRepeat 0xF3 (noOperands whole Op.CMPSW)) off ≡ bytes (0xF3 ∷ 0xA7 ∷ [])
+  pub rep-stosb : answer (withRepeat 0xF3 (noOperands whole Op.STOSB)) off ≡ bytes (0xF3 ∷ 0xAA ∷ [])
+  pub rep-stosw : answer (withRepeat 0xF3 (noOperands whole Op.STOSW)) off ≡ bytes (0xF3 ∷ 0xAB ∷ [])
+  pub rep-lodsb : answer (withRepeat 0xF3 (noOperands whole Op.LODSB)) off ≡ bytes (0xF3 ∷ 0xAC ∷ [])
+  pub rep-lodsw : answer (withRepeat 0xF3 (noOperands whole Op.LODSW)) off ≡ bytes (0xF3 ∷ 0xAD ∷ [])
+  pub rep-scasw : answer (withRepeat 0xF3 (noOperands whole Op.SCASW)) off ≡ bytes (0xF3 ∷ 0xAF ∷ [])
+  pub movsb : answer (noOperands whole Op.MOVSB) off ≡ bytes (0xA4 ∷ [])
+  pub rep : answer (noOperands whole Op.REP) off ≡ bytes (0xF3 ∷ [])
+  pub rep-two : answer (withRepeat 0xF3 (withTwo Op.MOVSB ax ax)) off ≡ bytes (0xF3 ∷ 0xA4 ∷ [])
+  pub lock-movsb : answer (withRepeat 0xF0 (noOperands whole Op.MOVSB)) off ≡ refused (E.InvalidRepeat whole)
+  pub repeat-1 : answer (withRepeat 1 (noOperands whole Op.MOVSB)) off ≡ refused (E.InvalidRepeat whole)
+  pub repeat-f1 : answer (withRepeat 0xF1 (noOperands whole Op.MOVSB)) off ≡ refused (E.InvalidRepeat whole)
+  pub repeat-f4 : answer (withRepeat 0xF4 (noOperands whole Op.MOVSB)) off ≡ refused (E.InvalidRepeat whole)
+  pub rep-rep : answer (withRepeat 0xF3 (noOperands whole Op.REP)) off ≡ refused (E.InvalidRepeat whole)
+  pub rep-repne : answer (withRepeat 0xF3 (noOperands whole Op.REPNE)) off ≡ refused (E.InvalidRepeat whole)
+  pub rep-lock : answer (withRepeat 0xF3 (noOperands whole Op.LOCK)) off ≡ refused (E.InvalidRepeat whole)
+  pub rep-nop : answer (withRepeat 0xF3 (noOperands whole Op.NOP)) off ≡ refused (E.InvalidRepeat whole)
+  pub rep-call : answer (withRepeat 0xF3 (to Op.CALL (pos 0))) off ≡ refused (E.InvalidRepeat whole)
+  pub rep-esc : answer (withRepeat 0xF3 (noOperands whole Op.ESC)) off ≡ refused (E.InvalidRepeat whole)
 
 rows : (off : ℕ) → Rows off
-unfolding answer questions wellFormed prefix groupedOf formsOf forms numberOf layout
+unfolding answer questions wellFormed prefix isRepeat isString groupedOf formsOf forms numberOf layout
 rows off = record {
+  rep-movsb = refl;
+  repne-scasb = refl;
+  repne-movsb = refl;
+  rep-movsw = refl;
+  rep-cmpsb = refl;
+  rep-cmpsw = refl;
+  rep-stosb = refl;
+  rep-stosw = refl;
+  rep-lodsb = refl;
+  rep-lodsw = refl;
+  rep-scasw = refl;
+  movsb = refl;
+  rep = refl;
+  rep-two = refl;
+  lock-movsb = refl;
+  repeat-1 = refl;
+  repeat-f1 = refl;
+  repeat-f4 = refl;
+  rep-rep = refl;
+  rep-repne = refl;
+  rep-lock = refl;
+  rep-nop = refl;
+  rep-call = refl;
+  rep-esc = refl;
   mov-ax-4660 = refl;
   aam = refl;
   test-al-5 = refl;
@@ -299,6 +348,16 @@ record Order : Type 0 where
   eight-before-1 : answer (withOne Op.POP (segmentOperand one 5)) 0 ≡ refused (E.NotWellFormed one)
   eight-before-5 : answer (instruction whole Op.MOV 3 al (immediate (pos 300))) 0 ≡ refused (E.NotWellFormed whole)
   eight-before-6 : answer (instruction whole Op.JE 3 (immediateOperand one (pos 130)) (immediate (pos 0))) 0 ≡ refused (E.NotWellFormed whole)
+  -- and 8 before 23
+  count-before-23 : answer (withRepeat 0xF0 (instruction whole Op.MOVSB 3 ax ax)) 0 ≡ refused (E.NotWellFormed whole)
+  first-before-23 : answer (withRepeat 0xF0 (withTwo Op.MOVSB (bad one) ax)) 0 ≡ refused (E.NotWellFormed one)
+  unused-before-23 : answer (withRepeat 0xF0 (instruction whole Op.MOVSB 0 ax (bad two))) 0 ≡ refused (E.NotWellFormed two)
+  -- 23 before the others
+  twenty-three-before-7 : answer (withRepeat 0xF3 (noOperands whole Op.ESC)) 0 ≡ refused (E.InvalidRepeat whole)
+  twenty-three-before-2 : answer (withRepeat 0xF3 (withTwo Op.ADD (bx one OD.None) (bx two OD.None))) 0 ≡ refused (E.InvalidRepeat whole)
+  twenty-three-before-1 : answer (withRepeat 0xF3 (withOne Op.POP (segmentOperand one 1))) 0 ≡ refused (E.InvalidRepeat whole)
+  twenty-three-before-5 : answer (withRepeat 0xF3 (withTwo Op.MOV al (immediate (pos 300)))) 0 ≡ refused (E.InvalidRepeat whole)
+  twenty-three-before-6 : answer (withRepeat 0xF3 (to Op.JE (pos 130))) 0 ≡ refused (E.InvalidRepeat whole)
   -- 7 before the sizes and the form
   seven-before-3 : answer (withTwo Op.ESC al ax) 0 ≡ refused (E.NotSupported whole)
   seven-before-1 : answer (withOne Op.INT1 (segmentOperand one 3)) 0 ≡ refused (E.NotSupported whole)
@@ -317,7 +376,7 @@ record Order : Type 0 where
   five-before-6 : answer (withOne Op.JMP (targetOf J.Short (pos 65536))) 0 ≡ refused (E.ImmediateOutOfRange one (pos 65536) (pos 0) (pos 65535))
 
 order : Order
-unfolding wellFormed answer questions prefix groupedOf formsOf forms numberOf layout
+unfolding wellFormed answer questions prefix isRepeat isString groupedOf formsOf forms numberOf layout
 order = record {
   count-3 = refl;
   first-operand = refl;
@@ -331,6 +390,14 @@ order = record {
   eight-before-1 = refl;
   eight-before-5 = refl;
   eight-before-6 = refl;
+  count-before-23 = refl;
+  first-before-23 = refl;
+  unused-before-23 = refl;
+  twenty-three-before-7 = refl;
+  twenty-three-before-2 = refl;
+  twenty-three-before-1 = refl;
+  twenty-three-before-5 = refl;
+  twenty-three-before-6 = refl;
   seven-before-3 = refl;
   seven-before-1 = refl;
   two-before-1 = refl;

@@ -11,7 +11,7 @@ use lib.ListN.{length}
 use borrow.Author.Tests.{eqb-true, eqb-false, ne-eqb}
 use Rattle.mrc_compiler.specs.Choose.{pick, either}
 use Rattle.x86.specs.Forms.{Extension, Form, forms}
-use Rattle.x86.specs.Reading.{hasOpcode, fits, put, keep, some, startingWith, fitting, hasSecond, mayNameMemory, readForm, readFirst, readSecond, readOpcode, prefix, reads}
+use Rattle.x86.specs.Reading.{hasOpcode, fits, put, keep, some, startingWith, fitting, hasSecond, mayNameMemory, readForm, readFirst, readSecond, readOpcode, prefix, readPlain}
 use Rattle.x86.proofs.Tests.{upTo, upTo-at}
 use Rattle.x86.proofs.Unambiguous.{unambiguous, at-90, xchgAx, nop, same-at-90, second-agrees, no-prefix}
 use Rattle.encode_spec.specs.WellFormed.{isPrefix}
@@ -32,7 +32,7 @@ keeps q (g ∷ fs) {f} e m = ⊎-elim (λ z. here z) (λ l. there (q g) (keeps q
     there false l = l
 
 -- a form that passes the test is some form that does
-some-true : (q : Form → Bool) (fs : List Form) {f : Form} → q f ≡ true → List·Memᴰ f fs → some q fs ≡ true
+pub some-true : (q : Form → Bool) (fs : List Form) {f : Form} → q f ≡ true → List·Memᴰ f fs → some q fs ≡ true
 some-true q [] e m = absurd (List·Memᴰ·not-nil m)
 some-true q (g ∷ fs) {f} e m = ⊎-elim (λ z. here z) (λ l. either-right (q g) (some q fs) (some-true q fs e l)) (List·Memᴰ·cases-cons m)
   where
@@ -120,13 +120,13 @@ module _ (off p c x : ℕ) (t : List ℕ) (f : Form) (b : Begins p c x f) where
 
   -- the bytes of a form, with its prefix, are read by that form
   pub front : isPrefix p ≡ true → (hasSecond (f .extension) ≡ false → x ≡ 0)
-      → reads off (prefixBytes p ++ (c ∷ (secondBytes (f .extension) x ++ t))) ≡ readForm off p c x t f
-  unfolding reads
+      → readPlain off (prefixBytes p ++ (c ∷ (secondBytes (f .extension) x ++ t))) ≡ readForm off p c x t f
+  unfolding readPlain
   front q z = go (eqb p 0) refl q
     where
       s : List ℕ
       s = c ∷ (secondBytes (f .extension) x ++ t)
 
-      go : (i : Bool) → eqb p 0 ≡ i → either i (prefix p) ≡ true → reads off (pick i [] (p ∷ []) ++ s) ≡ readForm off p c x t f
+      go : (i : Bool) → eqb p 0 ≡ i → either i (prefix p) ≡ true → readPlain off (pick i [] (p ∷ []) ++ s) ≡ readForm off p c x t f
       go true e h = rw (no-prefix-byte (prefix c) refl) (ap (λ (q : ℕ). readOpcode off q s) (sym (eqb-true p 0 e)) ∙ read-opcode z)
       go false e h = rw h (read-opcode z)

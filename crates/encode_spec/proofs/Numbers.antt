@@ -24,10 +24,10 @@ use Rattle.encode_spec.specs.Choice.{Choice, none, straight, crossed}
 use Rattle.encode_spec.specs.Limits.{Asked, ofSlot, ofForm}
 use Rattle.encode_spec.specs.Questions.{Ask, errorOf, statedBy, sizeStated, formFound, groupAsks, withSpan, wellFormedAsked, formAsked, chosen, questions}
 
--- 1: 8. 2: 7. 3: 2 or 4. 4: 3. 5: 1 or 4. 6: 5. 7: 6
+-- 1: 8 or 23. 2: 7. 3: 2 or 4. 4: 3. 5: 1 or 4. 6: 5. 7: 6
 abbrev pub gives : ℕ → ℕ → Bool
 gives n r =
-    pick (eqb n 1) (eqb r 8) (pick (eqb n 2) (eqb r 7) (pick (eqb n 3) (either (eqb r 2) (eqb r 4)) (pick (eqb n 4) (eqb r 3)
+    pick (eqb n 1) (either (eqb r 8) (eqb r 23)) (pick (eqb n 2) (eqb r 7) (pick (eqb n 3) (either (eqb r 2) (eqb r 4)) (pick (eqb n 4) (eqb r 3)
     (pick (eqb n 5) (either (eqb r 1) (eqb r 4)) (pick (eqb n 6) (eqb r 5) (both (eqb n 7) (eqb r 6)))))))
 
 abbrev pub numbered : List Asked → Bool
@@ -167,7 +167,7 @@ with-span insn g c a b =
       given g .refused a b,
     )
 
--- every question of every record at every offset has a refusal that document 01 gives it
+-- every question of every record at every offset has a refusal that documents 01 and 02 give it
 pub questions-give : (insn : InstructionData) (off : ℕ) → numbered (questions insn off) ≡ true
 unfolding questions
 questions-give insn off =

@@ -10,24 +10,31 @@ use lib.ListN.{length, drop, length-append, List·getD-append}
 use lib.Seq.{drop-at}
 use borrow.Author.Tests.{eqb-true, le-leb}
 use Rattle.mrc_compiler.specs.declared.encoder.OperandData.{OperandData}
-use Rattle.mrc_compiler.specs.Choose.{pick, both, either}
+use Rattle.mrc_compiler.specs.Choose.{pick, both, either, isnt}
+use Rattle.mrc_compiler.specs.Operations.{numberOf, isString}
 use Rattle.x86.specs.declared.Instruction.{Instruction}
 use Rattle.x86.specs.declared.Operand.{Operand}
 use Rattle.x86.specs.declared.Read.the-variants.{Whole}
-use Rattle.x86.specs.Instructions.{canonical}
+use Rattle.x86.specs.Instructions.{canonical, repeated}
 use Rattle.x86.specs.Forms.{Extension, Form, forms}
 use Rattle.x86.specs.Forms as F
-use Rattle.x86.specs.Reading.{Place, nowhere, by-modrm, by-address, by-bx-al, about, widthOf, hasSecond, headLength, memoryLength, tailLength, addressLength, inMemory, somewhere, namesMemory, at, readForm, reads, prefix}
+use Rattle.x86.specs.Reading.{Place, nowhere, by-modrm, by-address, by-bx-al, about, widthOf, hasSecond, headLength, memoryLength, tailLength, addressLength, inMemory, somewhere, namesMemory, mayNameMemory, at, startingWith, readForm, prefix, readPlain, isRepeat, beginsString, repeats, reads}
 use Rattle.x86.specs.Listing.{Bytes}
 use Rattle.x86.proofs.Tests.{both-left, both-right, eachOf, each-at}
+use Rattle.x86.proofs.Repeats.{repeat-byte, whole-plain}
 use Rattle.x86.proofs.Sizes.{read-size}
 use Rattle.x86.proofs.Unambiguous.{all-bytes, digitOk}
 use Rattle.encode_spec.specs.WellFormed.{isPrefix}
 use Rattle.encode_spec.specs.Layout.{Part, prefixBytes, part, second, layout}
-use Rattle.encode_spec.proofs.Front.{secondBytes, Begins, front}
+use Rattle.encode_spec.proofs.Front.{some-true, secondBytes, Begins, among, front}
 use Rattle.encode_spec.proofs.Values.{no-byte, bytes-cons, bytes-append}
 use Rattle.encode_spec.proofs.Slots.{field, placeOf, laid, holding, ByField, by-field, holds, Given, bounded, Alike, Found, found}
 use Rattle.encode_spec.proofs.Arrangements.{Arranged, firstByte, secondByte, modrmByte, pastIt, Placed, placed}
+
+-- bs reads, to the last byte and without a repeat, as the instruction m
+pub record ReadsPlain (off : ℕ) (m : Instruction) (bs : List ℕ) : Type 0 where
+  pub reads-it : readPlain off bs ≡ Whole m (length bs)
+  pub are-bytes : Bytes bs
 
 -- bs reads, to the last byte, as the instruction m, and is a string that the listing speaks of
 pub record Reads (off : ℕ) (m : Instruction) (bs : List ℕ) : Type 0 where
@@ -35,6 +42,20 @@ pub record Reads (off : ℕ) (m : Instruction) (bs : List ℕ) : Type 0 where
   pub some : 1 ≤ length bs
   pub short : length bs ≤ 7
   pub are-bytes : Bytes bs
+
+read-whole : (off : ℕ) (m : Instruction) (bs : List ℕ) → reads off bs ≡ Whole m (length bs) → Bytes bs → Reads off m bs
+read-whole off m bs e h = let n = read-size off bs m (length bs) e in record { reads-it = e; some = n .0; short = n .1; are-bytes = h }
+
+-- without a repeat
+pub plain-reads : (off : ℕ) (m : Instruction) (bs : List ℕ) → ReadsPlain off m bs → Reads off m bs
+plain-reads off m bs r = read-whole off m bs (whole-plain off bs m (r .reads-it)) (r .are-bytes)
+
+-- and with one, before a string operation
+pub repeated-reads : (off b : ℕ) (m : Instruction) (bs : List ℕ) → isRepeat b ≡ true → beginsString bs ≡ true → ReadsPlain off m bs
+    → Reads off (repeated b m) (b ∷ bs)
+unfolding reads repeats
+repeated-reads off b m bs e k r =
+    read-whole off (repeated b m) (b ∷ bs) (rw (e, k, r .reads-it) refl) (bytes-cons b bs (repeat-byte b e) (r .are-bytes))
 
 -- bs begins with a prefix or none, and the first and second byte of the form f
 pub record Begun (f : Form) (bs : List ℕ) : Type 0 where
@@ -45,6 +66,33 @@ pub record Begun (f : Form) (bs : List ℕ) : Type 0 where
   pub in-order : bs ≡ prefixBytes p ++ (c ∷ (secondBytes (f .extension) x ++ rest))
   pub begins : Begins p c x f
   pub prefixed : isPrefix p ≡ true
+
+-- ---- a string operation is read off its first byte
+-- it names no memory, so it has no prefix
+abbrev withoutMemory : Form → Bool
+withoutMemory f = pick (isString (f .operation)) (isnt (mayNameMemory f)) true
+
+string-forms : T (eachOf withoutMemory forms)
+unfolding forms isString numberOf
+string-forms = tt
+
+no-prefix-before : (f : Form) (p c x : ℕ) → isString (f .operation) ≡ true → Begins p c x f → eqb p 0 ≡ true
+no-prefix-before f p c x k b =
+    let t : T (isnt (mayNameMemory f)) = rw k at (each-at withoutMemory forms string-forms (b .listed)) in
+    go (eqb p 0) (mayNameMemory f) t (b .memory)
+  where
+    go : (i m : Bool) → T (isnt m) → either i m ≡ true → i ≡ true
+    go true m t e = refl
+    go false true t e = absurd t
+    go false false t e = e
+
+pub string-in-order : (f : Form) (bs : List ℕ) → isString (f .operation) ≡ true → (b : Begun f bs) → bs ≡ b .c ∷ (secondBytes (f .extension) (b .x) ++ b .rest)
+string-in-order f bs k b = rw (no-prefix-before f (b .p) (b .c) (b .x) k (b .begins)) at (b .in-order)
+
+pub string-begun : (f : Form) (bs : List ℕ) → isString (f .operation) ≡ true → Begun f bs → beginsString bs ≡ true
+string-begun f bs k b =
+    rw (string-in-order f bs k b)
+    (some-true (λ f. isString (f .operation)) (startingWith (b .c)) {f = f} k (among 0 (b .p) (b .c) (b .x) [] f (b .begins)))
 
 -- ---- of every form's slots one at most takes immediate bytes
 abbrev oneImmediate : Form → Bool
@@ -254,7 +302,7 @@ module _ (f : Form) (m : List·Memᴰ f forms) (r : ArrangedForm f) (off : ℕ) 
     memory = may-name (eqb (pl .p) 0) (about (f .first) .place) (about (f .second) .place) x before-memory;
   }
 
-  read-it : reads off bs ≡ Whole held (length bs)
+  read-it : readPlain off bs ≡ Whole held (length bs)
   read-it =
       front off (pl .p) c x t f begins (pl .names .prefixed) (no-second (f .extension) _)
       ∙ whole off (pl .p) c x f t (ia ++ ib) (holds (f .first) a) (holds (f .second) b) before-memory rest-length immediates
@@ -277,7 +325,5 @@ module _ (f : Form) (m : List·Memᴰ f forms) (r : ArrangedForm f) (off : ℕ) 
       rw (ap (λ (q : Part). q .opcode) (by-field (f .first) 0 a .part-is), ap (λ (q : Part). q .opcode) (by-field (f .second) 0 b .part-is)) refl
 
   -- the bytes of the form read back
-  pub reads-back : Reads off held (layout f off a b)
-  reads-back =
-      let n = read-size off bs held (length bs) read-it in
-      subst (Reads off held) (sym laid-out) (record { reads-it = read-it; some = n .0; short = n .1; are-bytes = bytes-in-order })
+  pub reads-back : ReadsPlain off held (layout f off a b)
+  reads-back = subst (ReadsPlain off held) (sym laid-out) (record { reads-it = read-it; are-bytes = bytes-in-order })

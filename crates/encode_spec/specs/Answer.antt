@@ -14,7 +14,7 @@ use Rattle.mrc_compiler.specs.declared.encoder.OperandData.{OperandData}
 use Rattle.mrc_compiler.specs.Choose.{pick}
 use Rattle.encode_spec.specs.Records.{dst, src}
 use Rattle.encode_spec.specs.Choice.{Choice, none, straight, crossed}
-use Rattle.encode_spec.specs.Layout.{layout}
+use Rattle.encode_spec.specs.Layout.{prefixBytes, layout}
 use Rattle.encode_spec.specs.Limits.{Asked}
 use Rattle.encode_spec.specs.Questions.{questions, chosen}
 
@@ -33,6 +33,10 @@ written none off a b = []
 written (straight f) off a b = layout f off a b
 written (crossed f) off a b = layout f off b a
 
+-- the record's: its repeat, and the form's. A string operation has no target, so its offset does not count
+abbrev pub recordBytes : InstructionData → ℕ → List ℕ
+recordBytes insn off = prefixBytes (insn .repeat) ++ written (chosen insn) off (dst insn) (src insn)
+
 pub data Answer : Type 0 where
   bytes : List ℕ → Answer
   refused : EncodeError → Answer
@@ -43,7 +47,7 @@ answered (no q) bs = refused (q .refusal)
 
 -- questions 1 to 7, and the bytes where all get yes
 unfoldable pub answer : InstructionData → ℕ → Answer
-answer insn off = answered (firstNo (questions insn off)) (written (chosen insn) off (dst insn) (src insn))
+answer insn off = answered (firstNo (questions insn off)) (recordBytes insn off)
 
 -- question 8: what is returned, and the slice afterwards
 abbrev pub outcome : Answer → Span → List ℕ → Encoded

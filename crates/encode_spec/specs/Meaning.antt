@@ -9,6 +9,7 @@ use Rattle.mrc_compiler.specs.declared.encoder.OperandData.{OperandData}
 use Rattle.mrc_compiler.specs.declared.operations.Operation.{Operation}
 use Rattle.mrc_compiler.specs.Choose.{pick}
 use Rattle.x86.specs.declared.Instruction.{Instruction}
+use Rattle.x86.specs.Instructions.{repeated}
 use Rattle.encode_groups.specs.declared.Group.{Group}
 use Rattle.encode_groups.specs.Grouping.{groupOf}
 use Rattle.encode_spec.specs.Records.{dst, src}
@@ -29,4 +30,4 @@ meant g k op a b = pick (unusedBy (rule g .special) k) (ofNone op a b) (rule g .
 
 -- the instruction of a record that the encoder accepts
 abbrev pub meaning : InstructionData → Instruction
-meaning insn = meant (groupOf (insn .operation)) (insn .«num_opers») (insn .operation) (dst insn) (src insn)
+meaning insn = repeated (insn .repeat) (meant (groupOf (insn .operation)) (insn .«num_opers») (insn .operation) (dst insn) (src insn))

@@ -18,7 +18,7 @@ use Rattle.mrc_compiler.specs.Builders.{isSpecified}
 use Rattle.mrc_compiler.specs.Choose.{either, bySize, byKind}
 use Rattle.mrc_compiler.specs.Values.{within}
 use Rattle.encode_spec.specs.Records.{dst, src}
-use Rattle.encode_spec.specs.WellFormed.{wellFormed}
+use Rattle.encode_spec.specs.WellFormed.{wellFormed, repeatFormed}
 use Rattle.encode_groups.specs.declared.Group.{Group}
 use Rattle.encode_groups.specs.Grouping.{groupOf}
 use Rattle.encode_spec.specs.Rules.{Sizing, unasked, either-states, first-states, first-is-word, Special, ordinary, unordered, unordered-memory, by-count, target-first, not-supported, isWord, rule}
@@ -100,12 +100,13 @@ abbrev pub withSpan : InstructionData → List Ask → List Asked
 withSpan insn [] = []
 withSpan insn (q ∷ qs) = asked (q .number) (q .yes) (errorOf (q .why) (q .at) insn) ∷ withSpan insn qs
 
--- 1: count, first operand, second operand
+-- 1: count, first operand, second operand, repeat
 abbrev pub wellFormedAsked : InstructionData → List Asked
 wellFormedAsked insn =
     asked 1 (leb (insn .«num_opers») 2) (E.NotWellFormed (insn .«opers_span»))
     ∷ asked 1 (wellFormed (dst insn)) (E.NotWellFormed (dst insn .span))
     ∷ asked 1 (wellFormed (src insn)) (E.NotWellFormed (src insn .span))
+    ∷ asked 1 (repeatFormed (insn .repeat) (insn .operation)) (E.InvalidRepeat (insn .«opers_span»))
     ∷ []
 
 -- 2: any operation but INT1, ESC

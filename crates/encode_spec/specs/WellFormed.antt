@@ -1,4 +1,4 @@
--- Well-formed operands (REFERENCE 3).
+-- Well-formed operands, and the repeat (REFERENCE 3).
 -- Definitions only.
 use Prim.Native.Nat.{ℕ}
 use mathlib.Core.Bool.{Bool, true, false}
@@ -7,9 +7,11 @@ use lib.Dec.{eqb, ltb}
 use lib.IntN.{pos, negsuc}
 use Rattle.mrc_compiler.specs.declared.encoder.OperandData.{OperandData}
 use Rattle.mrc_compiler.specs.declared.encoder.OperandSize.{OperandSize}
+use Rattle.mrc_compiler.specs.declared.operations.Operation.{Operation}
 use Rattle.mrc_compiler.specs.Choose.{both, either, bySize, byKind}
+use Rattle.mrc_compiler.specs.Operations.{isString}
 use Rattle.mrc_compiler.specs.Values.{within}
-use Rattle.x86.specs.Reading.{displacementLength, prefix}
+use Rattle.x86.specs.Reading.{displacementLength, prefix, isRepeat}
 
 -- do all of these hold?
 abbrev pub all : List Bool → Bool
@@ -54,3 +56,7 @@ memoryFormed o =
 
 unfoldable pub wellFormed : OperandData → Bool
 wellFormed o = byKind (o .kind) (immediateFormed o) (registerFormed o) (segmentFormed o) (memoryFormed o)
+
+-- 0, or F2 or F3 before a string operation
+abbrev pub repeatFormed : ℕ → Operation → Bool
+repeatFormed repeat op = either (eqb repeat 0) (both (isRepeat repeat) (isString op))

@@ -6,18 +6,22 @@ use mathlib.Core.List.{List, [], _∷_, _++_, append-assoc, append-nil}
 use Prim.Native.Nat.{ℕ, zero, suc, _+_, _<_, _≤_}
 use native.Mathlib.Numerals.{add-one}
 use native.Mathlib.Omega.{arith}
-use lib.Dec.{leb}
-use lib.ListN.{length, take, drop, length-set, length-append}
+use lib.Dec.{eqb, leb}
+use lib.ListN.{length, getD, take, drop, length-set, length-append}
 use lib.Seq.{take-suc-set}
-use borrow.Author.Tests.{lt-ltb}
+use borrow.Author.Tests.{lt-ltb, eqb-false}
 use Rattle.mrc_compiler.specs.declared.ast.Span.{Span}
 use Rattle.mrc_compiler.specs.declared.encoder.EncodeError.{EncodeError}
 use Rattle.mrc_compiler.specs.declared.encoder.EncodeError.the-variants as E
 use Rattle.mrc_compiler.specs.declared.encoder.Encoded.the-variants as N
 use Rattle.mrc_compiler.specs.declared.encoder.InstructionData.{InstructionData}
 use Rattle.mrc_compiler.specs.Choose.{pick}
+use Rattle.x86.specs.declared.Read.the-variants.{Whole}
+use Rattle.x86.specs.Reading.{reads}
+use Rattle.x86.proofs.Repeats.{HowRead, with-repeat, without, how-read, plain-repeat}
 use Rattle.encode_spec.specs.Records.{dst, src}
-use Rattle.encode_spec.specs.WellFormed.{wellFormed}
+use Rattle.encode_spec.specs.WellFormed.{wellFormed, repeatFormed}
+use Rattle.encode_spec.specs.Meaning.{meaning}
 use Rattle.encode_spec.specs.Answer.{Answer, bytes, refused, answer, outcome, sliceAfter}
 use Rattle.encode_spec.proofs.Accepted.{accepted-reads}
 use Rattle.encode_plans.specs.Plans.{planOf}
@@ -26,7 +30,8 @@ use Rattle.encode_fields.specs.declared.Refusal.the-variants as R
 use Rattle.encode_codes.specs.declared.Emitted.{Emitted}
 use Rattle.encode_run.specs.Run.{emptyRun, pushed, appended}
 use Rattle.encode_codes.specs.Emit.{emitted}
-use Rattle.encoder.specs.Coded.{planAnswer, coded}
+use Rattle.encoder.specs.Coded.{planAnswer, behindRepeat, coded}
+use Rattle.encoder.specs.Coded as Coded
 use Rattle.encoder.specs.Lengths.{lengthOf}
 use Rattle.encoder.proofs.Tied.{tied}
 
@@ -45,10 +50,53 @@ module _ (insn : InstructionData) (off : ℕ) where
   unfolding coded
   second-refused n a b = sym (tied insn off) ∙ rw (n, a, b)
 
-  pub planned : leb (insn .«num_opers») 2 ≡ true → wellFormed (dst insn) ≡ true → wellFormed (src insn) ≡ true
-      → answer insn off ≡ planAnswer (planOf insn) insn off
+  pub repeat-refused : leb (insn .«num_opers») 2 ≡ true → wellFormed (dst insn) ≡ true → wellFormed (src insn) ≡ true
+      → repeatFormed (insn .repeat) (insn .operation) ≡ false → answer insn off ≡ refused (E.InvalidRepeat (insn .«opers_span»))
   unfolding coded
-  planned n a b = sym (tied insn off) ∙ rw (n, a, b)
+  repeat-refused n a b r = sym (tied insn off) ∙ rw (n, a, b, r)
+
+  planned : leb (insn .«num_opers») 2 ≡ true → wellFormed (dst insn) ≡ true → wellFormed (src insn) ≡ true
+      → repeatFormed (insn .repeat) (insn .operation) ≡ true → answer insn off ≡ behindRepeat (insn .repeat) (planAnswer (planOf insn) insn off)
+  unfolding coded
+  planned n a b r = sym (tied insn off) ∙ rw (n, a, b, r)
+
+  -- a record with a repeat has two bytes
+  two-bytes : off < 65536 → (bs : List ℕ) → eqb (insn .repeat) 0 ≡ false → answer insn off ≡ bytes (insn .repeat ∷ bs) → length bs ≡ 1
+  two-bytes h bs z e = go (how-read off s)
+    where
+      s : List ℕ
+      s = insn .repeat ∷ bs
+
+      r : reads off s ≡ Whole (meaning insn) (length s)
+      r = accepted-reads insn off h s e .reads-it
+
+      go : HowRead off s → length bs ≡ 1
+      go (with-repeat k) = let w = r in let q : length s ≡ 2 = cc in omega (arith, q)
+      go (without n q) = absurd (eqb-false (insn .repeat) 0 z (plain-repeat off s (meaning insn) (length s) (sym q ∙ r)))
+
+  -- the plan's run behind the repeat is the answer's
+  module _ (h : off < 65536) where
+    behind : (a : Answer) → answer insn off ≡ behindRepeat (insn .repeat) a → Coded.withRepeat (insn .repeat) (emitted emptyRun a) ≡ emitted emptyRun (answer insn off)
+    behind a e = go (eqb (insn .repeat) 0) refl a e
+      where
+        pushed-one : (p : ℕ) (bs : List ℕ) → length bs ≡ 1 → pushed (pushed emptyRun p) (getD (appended emptyRun bs .bytes) 0 0) ≡ appended (pushed emptyRun p) bs
+        pushed-one p [] l = absurd (omega arith)
+        pushed-one p (b ∷ []) l = refl
+        pushed-one p (b ∷ c ∷ bs) l = absurd (omega arith)
+
+        go : (z : Bool) → eqb (insn .repeat) 0 ≡ z → (a : Answer) → answer insn off ≡ behindRepeat (insn .repeat) a
+            → Coded.withRepeat (insn .repeat) (emitted emptyRun a) ≡ emitted emptyRun (answer insn off)
+        go true z (bytes bs) e = rw (e, z) refl
+        go false z (bytes bs) e =
+            let q : answer insn off ≡ bytes (insn .repeat ∷ bs) = rw z at e in
+            rw (q, z, pushed-one (insn .repeat) bs (two-bytes h bs z q)) refl
+        go true z (refused x) e = rw (e, z) refl
+        go false z (refused x) e = rw (e, z) refl
+
+    pub run-planned : leb (insn .«num_opers») 2 ≡ true → wellFormed (dst insn) ≡ true → wellFormed (src insn) ≡ true
+        → repeatFormed (insn .repeat) (insn .operation) ≡ true
+        → Coded.withRepeat (insn .repeat) (emitted emptyRun (planAnswer (planOf insn) insn off)) ≡ emitted emptyRun (answer insn off)
+    run-planned n a b r = behind (planAnswer (planOf insn) insn off) (planned n a b r)
 
 -- ---- a run and the lent slice
 -- what a run holds

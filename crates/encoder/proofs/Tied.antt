@@ -23,15 +23,15 @@ use Rattle.x86.specs.Reading.{keep, about}
 use Rattle.x86.proofs.Tests.{both-parts, eachOf, each-at, kept}
 use Rattle.x86.proofs.Unambiguous.{digitOk, all-bytes}
 use Rattle.encode_spec.specs.Records.{dst, src}
-use Rattle.encode_spec.specs.WellFormed.{wellFormed}
+use Rattle.encode_spec.specs.WellFormed.{wellFormed, repeatFormed}
 use Rattle.encode_groups.specs.declared.Group.{Group}
 use Rattle.encode_groups.specs.Grouping.{groupedOf, groupOf}
 use Rattle.encode_spec.specs.Rules.{rule}
 use Rattle.encode_spec.specs.Choice.{Choice, none, straight, crossed, takes, sizeIn, choose, countBy, eitherWay, formsOf}
-use Rattle.encode_spec.specs.Layout.{Part, part, layout}
+use Rattle.encode_spec.specs.Layout.{Part, prefixBytes, part, layout}
 use Rattle.encode_spec.specs.Limits.{Asked, asked, ofSlot, ofForm}
 use Rattle.encode_spec.specs.Questions.{Ask, ask, sizeStated, sizesAgree, targetAsked, formFound, groupAsks, withSpan, isSupported, formAsked, chosen, questions}
-use Rattle.encode_spec.specs.Answer.{firstNo, written, Answer, bytes, refused, answered, answer}
+use Rattle.encode_spec.specs.Answer.{First, all-yes, no, firstNo, written, recordBytes, Answer, bytes, refused, answered, answer}
 use Rattle.encode_spec.proofs.Values.{both-true}
 use Rattle.encode_spec.proofs.Slots.{Field, field, placeOf, laid, ByField, by-field}
 use Rattle.encode_spec.proofs.ReadBack.{ArrangedForm}
@@ -39,7 +39,7 @@ use Rattle.encode_spec.proofs.Meanings.{all-at}
 use Rattle.encode_spec.proofs.Operations.{by-operation}
 use Rattle.encode_plans.specs.Plans.{tail, head, fixed, formPlan, choicePlan, refusing, planOf}
 use Rattle.encode_fields.specs.Fields.{joined, operand, other}
-use Rattle.encoder.specs.Coded.{planAnswer, coded}
+use Rattle.encoder.specs.Coded.{planAnswer, behindRepeat, coded}
 use Rattle.encoder.proofs.Joins.{asked-joined, listed, listed-append, emits, refuses}
 use Rattle.encoder.proofs.Tails.{behind, codes, kindFits, SlotTied, slot-tied}
 use Rattle.encoder.proofs.Heads.{laidOut, Headed, headed}
@@ -242,17 +242,24 @@ asked-where : (n : ℕ) (t : Bool) (e : EncodeError) (qs : List Asked) (bs : Lis
 asked-where n true e qs bs x h = h refl
 asked-where n false e qs bs x h = refl
 
+behind-answered : (p : ℕ) (f : First) (bs : List ℕ) → behindRepeat p (answered f bs) ≡ answered f (prefixBytes p ++ bs)
+behind-answered p all-yes bs = refl
+behind-answered p (no q) bs = refl
+
 -- the answer as the code finds it is the answer of the questions and forms
 pub tied : (insn : InstructionData) (off : ℕ) → coded insn off ≡ answer insn off
 unfolding coded answer questions planOf
 tied insn off =
     let a = dst insn in
     let b = src insn in
-    let bs = written (chosen insn) off a b in
-    let rs = drop 3 (questions insn off) in
+    let bs = recordBytes insn off in
+    let rs = drop 4 (questions insn off) in
+    let ofRepeat = E.InvalidRepeat (insn .«opers_span») in
+    let repeat = asked 1 (repeatFormed (insn .repeat) (insn .operation)) ofRepeat in
     let ofB = E.NotWellFormed (b .span) in
     let ofA = E.NotWellFormed (a .span) in
-    asked-where 1 (leb (insn .«num_opers») 2) (E.NotWellFormed (insn .«opers_span»)) (asked 1 (wellFormed a) ofA ∷ asked 1 (wellFormed b) ofB ∷ rs) bs _
-    (λ n. asked-where 1 (wellFormed a) ofA (asked 1 (wellFormed b) ofB ∷ rs) bs _
-    (λ wa. asked-where 1 (wellFormed b) ofB rs bs (planAnswer (planOf insn) insn off)
-    (λ wb. sym (same-chosen insn off wa wb))))
+    asked-where 1 (leb (insn .«num_opers») 2) (E.NotWellFormed (insn .«opers_span»)) (asked 1 (wellFormed a) ofA ∷ asked 1 (wellFormed b) ofB ∷ repeat ∷ rs) bs _
+    (λ n. asked-where 1 (wellFormed a) ofA (asked 1 (wellFormed b) ofB ∷ repeat ∷ rs) bs _
+    (λ wa. asked-where 1 (wellFormed b) ofB (repeat ∷ rs) bs _
+    (λ wb. asked-where 1 (repeatFormed (insn .repeat) (insn .operation)) ofRepeat rs bs (behindRepeat (insn .repeat) (planAnswer (planOf insn) insn off))
+    (λ wr. ap (behindRepeat (insn .repeat)) (sym (same-chosen insn off wa wb)) ∙ behind-answered (insn .repeat) (firstNo rs) (written (chosen insn) off a b)))))

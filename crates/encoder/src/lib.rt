@@ -10,7 +10,7 @@ ghost use Rattle.encode_spec.specs.Answer.{answer, outcome, sliceAfter};
 ghost use Rattle.encode_spec.specs.Answer as Answers;
 ghost use Rattle.encode_run.specs.Run.{emptyRun};
 ghost use Rattle.encode_codes.specs.Emit.{emitted};
-ghost use Rattle.encoder.specs.Coded.{coded, planAnswer};
+ghost use Rattle.encoder.specs.Coded.{coded, planAnswer, withRepeat};
 ghost use Rattle.encoder.specs.Lengths.{lengthOf};
 use encode_codes::Emitted;
 use encode_fields::Refusal;
@@ -69,6 +69,25 @@ fn run_of_plan(plan: Plan, insn: InstructionData, offset: u16) -> Emitted
     }
 }
 
+// The run of a string operation, which is one byte, behind its repeat; a refusal, and a run without a repeat, as it is.
+fn with_repeat(repeat: u8, done: Emitted) -> Emitted
+    ensures { λ r. ⌜ r ≡ withRepeat repeat done ⌝ }
+{
+    if repeat == 0 {
+        return done;
+    }
+    let refusal = done.refusal;
+    let run = done.run;
+    if encode_fields::is_refused(refusal) {
+        return done;
+    }
+    let opcode = run.bytes[0];
+    Emitted {
+        refusal,
+        run: encode_run::push(encode_run::push(encode_run::empty_run(), repeat), opcode),
+    }
+}
+
 // Questions 1 to 7: the run of a record at an offset, or the refusal.
 pub fn run_of(insn: InstructionData, offset: u16) -> Emitted
     ensures { λ r. ⌜ r ≡ emitted emptyRun (answer insn offset) ⌝ }
@@ -78,12 +97,20 @@ pub fn run_of(insn: InstructionData, offset: u16) -> Emitted
     let span = insn.opers_span;
     let dst_span = dst.span;
     let src_span = src.span;
+    let repeat = insn.repeat;
     if 2 < insn.num_opers {
         return refused(EncodeError::NotWellFormed(span));
     }
     if encode_operand::is_well_formed(dst) {
         if encode_operand::is_well_formed(src) {
-            run_of_plan(encode_dispatch::plan_of(insn), insn, offset)
+            if encode_operand::is_repeat_well_formed(repeat, insn.operation) {
+                with_repeat(
+                    repeat,
+                    run_of_plan(encode_dispatch::plan_of(insn), insn, offset),
+                )
+            } else {
+                refused(EncodeError::InvalidRepeat(span))
+            }
         } else {
             refused(EncodeError::NotWellFormed(src_span))
         }

@@ -13,7 +13,7 @@ use Rattle.mrc_compiler.specs.declared.operations.Operation.the-variants as Op
 use Rattle.mrc_compiler.specs.Operations as Ops
 use Rattle.x86_forms.specs.declared.Extension.the-variants as X
 use Rattle.x86.specs.declared.Operand.the-variants as O
-use Rattle.x86.specs.Instructions.{instruction}
+use Rattle.x86.specs.Instructions.{instruction, repeated as behind}
 use Rattle.show_record.specs.Record.{operandAt, instructionAt, operandKnown, codesKnown}
 use Rattle.show_file.specs.declared.Header.{Header}
 use Rattle.show_file.specs.declared.LoadError.{LoadError}
@@ -25,7 +25,7 @@ use Rattle.foreign_report.proofs.Cases.{span, zeros4, spanBytes, zeros12, ones4
 use Rattle.x86_forms.specs.declared.Extension.{Extension}
 use Rattle.x86_forms.specs.declared.FormName.{FormName}
 use Rattle.x86.specs.Forms.{forms}
-use Rattle.x86.specs.Reading.{prefix}
+use Rattle.x86.specs.Reading.{prefix, isRepeat}
 use Rattle.encode_groups.specs.Grouping.{groupedOf}
 use Rattle.encode_spec.specs.WellFormed.{wellFormed}
 use Rattle.encode_spec.specs.Choice.{formsOf}
@@ -61,6 +61,10 @@ its-number (R.Record k e) = refl
 abbrev plain : ℕ → List ℕ
 plain op = (op ∷ 0 ∷ spanBytes) ++ replicate 46 0
 
+-- the same with a repeat
+abbrev repeated : ℕ → ℕ → List ℕ
+repeated op repeat = (op ∷ 0 ∷ repeat ∷ spanBytes) ++ replicate 46 0
+
 abbrev unknownKind : List ℕ
 unknownKind = (82 ∷ 1 ∷ spanBytes) ++ (4 ∷ replicate 45 0)
 
@@ -73,7 +77,7 @@ record Lists : Type 0 where
   encode-short : responseRecord (recordOf (99 ∷ replicate 54 0)) 0 [] .number ≡ 14
   encode-unknown : responseRecord (recordOf (plain 99)) 0 [] .number ≡ 15
   list-short : responseListing (recordOf (99 ∷ replicate 54 0)) 0 [] .number ≡ 14
-  list-long : responseListing (recordOf (plain 97 ++ (0 ∷ []))) 0 (replicate 96 0) .number ≡ 14
+  list-long : responseListing (recordOf (plain 97 ++ (0 ∷ 0 ∷ []))) 0 (replicate 96 0) .number ≡ 14
   list-unknown : responseListing (recordOf (plain 99)) 0 [] .number ≡ 15
   list-unknown-report : reportBytes (responseListing (recordOf (plain 99)) 0 []) ≡ zeros12 ++ (zeros12 ++ ones4)
   -- INT1 with an operand of an unknown kind: 15 before 7
@@ -82,6 +86,13 @@ record Lists : Type 0 where
   -- INT1: 7 before 9
   list-refused : responseListing (recordOf (plain 82)) 0 [] .number ≡ 7
   list-refused-report : reportBytes (responseListing (recordOf (plain 82)) 0 []) ≡ refusal
+  -- 57 bytes: MOVSB with F3 fits two bytes; LOCK with F3, and MOVSB with 99, are 23 with the span, before 9 and 7 but behind 15 (No. 11)
+  encode-rep-movsb : responseRecord (recordOf (repeated 48 0xF3)) 0 (replicate 2 0) .length ≡ 2
+  encode-rep-lock : responseRecord (recordOf (repeated 96 0xF3)) 0 [] .number ≡ 23
+  encode-repeat-99 : responseRecord (recordOf (repeated 48 99)) 0 [] .number ≡ 23
+  encode-repeat-99-report : reportBytes (responseRecord (recordOf (repeated 48 99)) 0 []) ≡ refusal
+  encode-repeat-code : responseRecord (recordOf (repeated 99 99)) 0 [] .number ≡ 15
+  list-rep-int1 : responseListing (recordOf (repeated 82 0xF3)) 0 [] .number ≡ 23
   -- HLT: 9 in 95 bytes
   list-95 : responseListing (recordOf (plain 93)) 0 (replicate 95 0) .number ≡ 9
   list-95-report : reportBytes (responseListing (recordOf (plain 93)) 0 (replicate 95 0)) ≡ refusal
@@ -89,7 +100,7 @@ record Lists : Type 0 where
   encode-0-report : reportBytes (responseRecord (recordOf (plain 93)) 0 []) ≡ refusal
 
 lists : Lists
-unfolding u32Bytes responseOf recordOf codesKnown operandKnown Ops.operations instructionAt operandAt answer questions wellFormed prefix groupedOf formsOf forms Ops.numberOf layout
+unfolding u32Bytes responseOf recordOf codesKnown operandKnown Ops.operations instructionAt operandAt answer questions wellFormed prefix isRepeat Ops.isString groupedOf formsOf forms Ops.numberOf layout
 lists = record {
   encode-short = refl;
   encode-unknown = refl;
@@ -101,6 +112,12 @@ lists = record {
   list-unknown-kind = refl;
   list-refused = refl;
   list-refused-report = refl;
+  encode-rep-movsb = refl;
+  encode-rep-lock = refl;
+  encode-repeat-99 = refl;
+  encode-repeat-99-report = refl;
+  encode-repeat-code = refl;
+  list-rep-int1 = refl;
   list-95 = refl;
   list-95-report = refl;
   encode-0 = refl;
@@ -136,6 +153,8 @@ record Reads : Type 0 where
       ≡ (3 ∷ 58 ∷ 0 ∷ 0xE8 ∷ 0 ∷ 0 ∷ 0 ∷ 0 ∷ []) ++ ((5 ∷ 0 ∷ 0 ∷ 0 ∷ 0x34 ∷ 0x12 ∷ 0 ∷ 0 ∷ []) ++ zeros8)
   jmp-far : readBytes (instruction Op.JMP S.Unspecified (O.Far 0x1234 0x5678) O.None) (named 0xEA X.None) 5
       ≡ (5 ∷ 59 ∷ 0 ∷ 0xEA ∷ 0 ∷ 0 ∷ 0 ∷ 0 ∷ []) ++ ((6 ∷ 0 ∷ 0 ∷ 0 ∷ 0x34 ∷ 0x12 ∷ 0x78 ∷ 0x56 ∷ []) ++ zeros8)
+  rep-movsb : readBytes (behind 0xF3 (instruction Op.MOVSB S.Unspecified O.None O.None)) (named 0xA4 X.None) 2
+      ≡ (2 ∷ 48 ∷ 0 ∷ 0xA4 ∷ 0 ∷ 0xF3 ∷ 0 ∷ 0 ∷ []) ++ (zeros8 ++ zeros8)
 
 reads : Reads
 unfolding u32Bytes operandHead operandValues Ops.numberOf
@@ -151,4 +170,5 @@ reads = record {
   sar-cx = refl;
   call-near = refl;
   jmp-far = refl;
+  rep-movsb = refl;
 }

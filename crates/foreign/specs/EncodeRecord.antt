@@ -2,12 +2,11 @@
 -- Definitions only.
 use Prim.Native.Nat.{ℕ}
 use mathlib.Core.List.{List}
-use lib.Dec.{eqb}
 use lib.ListN.{length}
 use Rattle.mrc_compiler.specs.declared.encoder.InstructionData.{InstructionData}
 use Rattle.mrc_compiler.specs.Choose.{pick}
 use Rattle.encode_spec.specs.Answer.{answer, outcome, sliceAfter}
-use Rattle.show_record.specs.Record.{recordLength, codesKnown, instructionAt}
+use Rattle.show_record.specs.Record.{isRecord, codesKnown, instructionAt}
 use Rattle.foreign_report.specs.declared.Response.{Response}
 use Rattle.foreign_report.specs.Crossing.{responseAlone, responseEncoded}
 
@@ -16,9 +15,9 @@ pub data Record : Type 0 where
   unknown-code : Record  -- 15
   of : InstructionData → Record
 
--- the record that 56 bytes are; its length is asked before its codes
+-- the record that 56 or 57 bytes are; its length is asked before its codes
 unfoldable pub recordOf : List ℕ → Record
-recordOf s = pick (eqb (length s) recordLength) (pick (codesKnown s) (of (instructionAt s)) unknown-code) wrong-length
+recordOf s = pick (isRecord (length s)) (pick (codesKnown s) (of (instructionAt s)) unknown-code) wrong-length
 
 abbrev pub recordNumber : Record → ℕ
 recordNumber wrong-length = 14

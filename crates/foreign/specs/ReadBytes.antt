@@ -1,5 +1,5 @@
 -- What fsq_read answers, and the 24 bytes that an instruction crosses as: six u32, little-endian. The first holds length, operation (002's
--- number), width (0 none, 1 Byte, 2 Word) and the form's opcode, a byte each; the second the form's extension; then two for each operand: kind,
+-- number), width (0 none, 1 Byte, 2 Word) and the form's opcode, a byte each; the second the form's extension and the repeat; then two for each operand: kind,
 -- number and segment, a byte each, and displacement, immediate or target with a far target's segment, a word each.
 -- Definitions only.
 use Prim.Native.Nat.{ℕ, _+_, _*_, _%_}
@@ -63,7 +63,7 @@ readLength = 24
 
 abbrev pub readBytes : Instruction → FormName → ℕ → List ℕ
 readBytes m f n =
-    threeBytes (headOf m f n) (extensionNumber (f .extension)) (operandHead (m .first))
+    threeBytes (headOf m f n) (extensionNumber (f .extension) + 256 * m .repeat) (operandHead (m .first))
     ++ threeBytes (operandValues (m .first)) (operandHead (m .second)) (operandValues (m .second))
 
 -- 0, 10 or 11

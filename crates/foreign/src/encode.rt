@@ -11,10 +11,13 @@ use foreign_report::write_report;
 pub fn record_number(rec: &[u8]) -> u8
     ensures { λ r. ⌜ r ≡ recordNumber (recordOf (now (rec .entry))) ⌝ }
 {
-    if rec.len() != show_record::RECORD_LENGTH {
-        return 14;
+    if show_record::is_record(rec.len()) {
+        if show_record::codes_known(rec) {
+            return 0;
+        }
+        return 15;
     }
-    if show_record::codes_known(rec) { 0 } else { 15 }
+    14
 }
 
 // Encodes the record into the front of out, and tells the answer.
@@ -32,12 +35,12 @@ fn response_record(rec: &[u8], offset: u16, out: &mut [u8]) -> Response
 }
 
 // Encodes a record of a show file at an offset.
-//   rec      the record, 56 bytes
+//   rec      the record, 56 bytes, or 57 with a repeat behind its operand count
 //   offset   where its bytes are to stand
 //   out      gets the bytes at its front; its later bytes stay, and a refusal leaves it as it was
 //   report   gets, where it has 28 bytes: length, span start, span end (u32), value, low, high (i32), record (u32), little-endian; its later bytes stay. The
 //            record is 4294967295: fsq_load alone names one
-//   answer   0, or the refusal's number; 14 where rec is not 56 bytes long, then 15 where one of its codes is unknown
+//   answer   0, or the refusal's number; 14 where rec is not 56 or 57 bytes long, then 15 where one of its codes is unknown
 // In C: uint8_t fsq_encode(const uint8_t *rec, size_t rec_len, uint16_t offset, uint8_t *out, size_t out_len, uint8_t *report, size_t report_len);
 #[no_mangle]
 pub extern "C" fn fsq_encode(rec: &[u8], offset: u16, out: &mut [u8], report: &mut [u8]) -> u8

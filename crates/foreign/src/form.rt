@@ -24,7 +24,7 @@ fn response_form(rec: &[u8], offset: u16, out: &mut [u8]) -> Response
 }
 
 // Tells by which form a record at an offset is written, or which question refuses it.
-//   rec      the record, 56 bytes
+//   rec      the record, as fsq_encode's
 //   offset   where its bytes are to stand
 //   out      gets, where it has 64 bytes, the line that fsqform prints, `form ..` or `question N`, with its line feed; its later bytes stay
 //   report   as fsq_encode's; its length is that of the line

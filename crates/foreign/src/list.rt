@@ -36,7 +36,7 @@ fn response_listing(rec: &[u8], offset: u16, out: &mut [u8]) -> Response
 }
 
 // Lists all strings of 1 to 7 bytes that are the same instruction as a record's at an offset.
-//   rec      the record, 56 bytes
+//   rec      the record, as fsq_encode's
 //   offset   where the strings are to stand
 //   out      gets, where it has 96 bytes, entries of 8 bytes from its front: a string's length, its bytes, zeros; shorter strings first, equal
 //            lengths by their first differing byte. Its later bytes stay, and a refusal leaves it as it was

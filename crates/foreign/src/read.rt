@@ -1,6 +1,6 @@
 // The instruction at the front of some bytes.
 ghost use mathlib.Core.Path.{_≡_};
-ghost use Prim.Native.Nat.{_≤_};
+ghost use Prim.Native.Nat.{_+_, _*_, _≤_};
 ghost use mathlib.Core.List.{_++_};
 ghost use lib.ListN.{length, drop};
 ghost use Rattle.reader.specs.Answer.{decoded};
@@ -58,6 +58,14 @@ fn head_of(insn: Instruction, form: FormName, n: usize) -> u32
     (n % 256) as u32 + 256 * (number as u32 + 256 * (size as u32 + 256 * (opcode as u32)))
 }
 
+// The form's extension, and the repeat.
+fn extension_word(extension: Extension, repeat: u8) -> u32
+    ensures { λ r. ⌜ r ≡ extensionNumber extension + 256 * repeat ⌝ }
+{
+    let number = extension_number(extension);
+    number as u32 + 256 * (repeat as u32)
+}
+
 fn operand_head(oper: Operand) -> u32
     ensures { λ r. ⌜ r ≡ operandHead oper ⌝ }
 {
@@ -84,7 +92,7 @@ fn write_read(insn: Instruction, form: FormName, n: usize, out: &mut [u8])
     let first = insn.first;
     let second = insn.second;
     let head = head_of(insn, form, n);
-    let digit = extension_number(extension) as u32;
+    let digit = extension_word(extension, insn.repeat);
     let a = operand_head(first);
     let b = operand_values(first);
     let c = operand_head(second);
@@ -93,10 +101,10 @@ fn write_read(insn: Instruction, form: FormName, n: usize, out: &mut [u8])
     put_three(out, 12, b, c, d)
 }
 
-// Reads one instruction at the front of bytes; what follows it is not looked at.
+// Reads one instruction at the front of bytes; what follows it is not looked at, but for the byte behind F2 or F3: they belong to a string operation.
 //   offset   where the bytes stand: near targets are answered for it
 //   out      gets, where it has 24 bytes and an instruction is read: length, operation (its number in a show file), width (0 none, 1 byte, 2
-//            word), the form's opcode, its extension (0 none, 1 +r, 2 +s, 3 /r, 4 a second byte 0A, 8 + n for /n), three zeros; then for each of
+//            word), the form's opcode, its extension (0 none, 1 +r, 2 +s, 3 /r, 4 a second byte 0A, 8 + n for /n), its repeat (0, F2 or F3), two zeros; then for each of
 //            two operands: kind (0 none, 1 register, 2 segment register, 3 memory, 4 immediate, 5 near target, 6 far target, 7 a shift's count of
 //            1), number (the register's, or the base: the r/m number of the address, 8 for none), the segment of memory (0 ES, 1 CS, 2 SS, 3
 //            DS), zero, displacement, immediate or target (u16), a far target's segment (u16). Its later bytes stay

@@ -32,9 +32,10 @@ record Rows : Type 0 where
   out-of-range : reportBytes (responseEncoded (N.Refused (E.ImmediateOutOfRange span (negsuc 1) (negsuc 127) (pos 65535))))
       ≡ zeros4 ++ (spanBytes ++ (0xFE ∷ 0xFF ∷ 0xFF ∷ 0xFF ∷ 0x80 ∷ 0xFF ∷ 0xFF ∷ 0xFF ∷ 0xFF ∷ 0xFF ∷ 0 ∷ 0 ∷ ones4))
   distance : reportBytes (responseEncoded (N.Refused (E.RelativeJumpOutOfRange span S.Byte true (pos 128)))) ≡ zeros4 ++ (spanBytes ++ ((128 ∷ 0 ∷ 0 ∷ 0 ∷ []) ++ (zeros4 ++ (zeros4 ++ ones4))))
+  repeat : responseEncoded (N.Refused (E.InvalidRepeat span)) .number ≡ 23
   number-alone : reportBytes (responseAlone 15) ≡ zeros12 ++ (zeros12 ++ ones4)
   short-report : reportAfter (responseAlone 15) spanBytes ≡ spanBytes
 
 rows : Rows
 unfolding u32Bytes
-rows = record { accepted = refl; out-of-range = refl; distance = refl; number-alone = refl; short-report = refl }
+rows = record { accepted = refl; out-of-range = refl; distance = refl; repeat = refl; number-alone = refl; short-report = refl }

@@ -84,6 +84,7 @@ pub fn response_refusal(e: EncodeError) -> Response
         },
         EncodeError::NotSupported(span) => response_span(7, span),
         EncodeError::NotWellFormed(span) => response_span(8, span),
+        EncodeError::InvalidRepeat(span) => response_span(23, span),
         EncodeError::SliceTooShort(span) => response_span(9, span),
     }
 }

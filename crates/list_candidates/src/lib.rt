@@ -4,7 +4,7 @@ ghost use Prim.Native.Nat.{_%_, _/_, _≤_};
 ghost use Rattle.encode_spec.specs.Layout.{wordBytes, prefixBytes};
 ghost use Rattle.encode_run.specs.Run.{emptyRun, appended};
 ghost use Rattle.list_spec.specs.Operands.{prefixIn, prefixOf, displacementOf, valueOf, farSegmentOf};
-ghost use Rattle.list_spec.specs.Candidates.{byteOf, displacementBytes, secondBytes, distance, tailBytes, stringOf, candidate};
+ghost use Rattle.list_spec.specs.Candidates.{byteOf, displacementBytes, secondBytes, distance, tailBytes, stringOf, repeatedString, candidate};
 use encode_run::ByteRun;
 use list_spec::Second;
 use list_spec::Start;
@@ -154,6 +154,7 @@ fn push_tail(
     }
 }
 
+// An opcode, or a repeat.
 fn push_opcode(run: ByteRun, opcode: u8) -> ByteRun
     ensures { λ r. ⌜ r ≡ appended run (byteOf opcode) ⌝ }
 {
@@ -181,13 +182,21 @@ fn string_run(offset: u16, prefix: u8, start: Start, insn: Instruction) -> ByteR
     )
 }
 
+// The string of an instruction with a repeat.
+fn repeated_run(repeat: u8, opcode: u8) -> ByteRun
+    ensures { λ r. ⌜ r ≡ appended emptyRun (repeatedString repeat opcode) ⌝ }
+{
+    push_opcode(push_opcode(encode_run::empty_run(), repeat), opcode)
+}
+
 // Candidate i, below 12.
 pub fn candidate_run(offset: u16, insn: Instruction, i: u8) -> ByteRun
     ensures { λ r. ⌜ r ≡ appended emptyRun (candidate offset insn i) ⌝ }
 {
     let start = list_starts::start_of(insn, i / 3 % 2, i % 3);
-    if i < 6 {
-        return string_run(offset, 0, start, insn);
+    if insn.repeat != 0 {
+        return repeated_run(insn.repeat, start.opcode);
     }
-    string_run(offset, prefix_of(insn), start, insn)
+    let prefix = if i < 6 { 0 } else { prefix_of(insn) };
+    string_run(offset, prefix, start, insn)
 }

@@ -72,17 +72,23 @@ fn same_operand(a: Operand, b: Operand) -> bool
 pub fn same_instruction(a: Instruction, b: Instruction) -> bool
     ensures { λ r. ⌜ r ≡ sameInstruction a b ⌝ }
 {
+    let repeat = a.repeat;
     let operation = a.operation;
     let width = a.width;
     let first = a.first;
     let second = a.second;
+    let other_repeat = b.repeat;
     let other_operation = b.operation;
     let other_width = b.width;
     let other_first = b.first;
     let other_second = b.second;
+    let repeats = same_byte(repeat, other_repeat);
     let operations = same_byte(operation.number(), other_operation.number());
     let widths = same_byte(size_number(width), size_number(other_width));
     let firsts = same_operand(first, other_first);
     let seconds = same_operand(second, other_second);
-    both_of(operations, both_of(widths, both_of(firsts, seconds)))
+    both_of(
+        repeats,
+        both_of(operations, both_of(widths, both_of(firsts, seconds))),
+    )
 }

@@ -12,11 +12,11 @@ use Rattle.mrc_compiler.specs.declared.encoder.OperandData.{OperandData}
 use Rattle.mrc_compiler.specs.declared.encoder.OperandSize.the-variants as S
 use Rattle.mrc_compiler.specs.declared.operations.Operation.{Operation}
 use Rattle.mrc_compiler.specs.declared.operations.Operation.the-variants as Op
-use Rattle.mrc_compiler.specs.Operations.{numberOf}
-use Rattle.mrc_compiler.specs.Builders.{immediateOperand, registerOperand, indirectOperand, noOperands, oneOperand, twoOperands}
+use Rattle.mrc_compiler.specs.Operations.{numberOf, isString}
+use Rattle.mrc_compiler.specs.Builders.{immediateOperand, registerOperand, indirectOperand, noOperands, oneOperand, twoOperands, withRepeat}
 use Rattle.x86.specs.Forms.{forms}
 use Rattle.x86.specs.Instructions.{canonical}
-use Rattle.x86.specs.Reading.{startingWith, readForm, prefix, reads}
+use Rattle.x86.specs.Reading.{startingWith, readForm, prefix, readPlain, isRepeat, repeats, reads}
 use Rattle.encode_spec.specs.Operands.{counted}
 use Rattle.encode_spec.specs.Meaning.{meant, meaning}
 use Rattle.encode_groups.specs.Grouping.{groupedOf}
@@ -83,13 +83,24 @@ pub record Rows (off : ℕ) : Type 0 where
   pub jmp-65534-0 : listedOne 65534 Op.JMP (immediateOperand span (pos 0)) ≡ (0xEB ∷ 0x00 ∷ []) ∷ (0xE9 ∷ 0xFF ∷ 0xFF ∷ []) ∷ []
   pub jmp-0-5 : listedOne 0 Op.JMP (immediateOperand span (pos 5)) ≡ (0xEB ∷ 0x03 ∷ []) ∷ (0xE9 ∷ 0x02 ∷ 0x00 ∷ []) ∷ []
   pub jmp-0-200 : listedOne 0 Op.JMP (immediateOperand span (pos 200)) ≡ (0xE9 ∷ 0xC5 ∷ 0x00 ∷ []) ∷ []
+  -- No. 11
+  pub rep : listing off (meaning (noOperands span Op.REP)) ≡ (0xF3 ∷ []) ∷ []
+  pub repne : listing off (meaning (noOperands span Op.REPNE)) ≡ (0xF2 ∷ []) ∷ []
+  pub movsb : listing off (meaning (noOperands span Op.MOVSB)) ≡ (0xA4 ∷ []) ∷ []
+  pub rep-movsb : listing off (meaning (withRepeat 0xF3 (noOperands span Op.MOVSB))) ≡ (0xF3 ∷ 0xA4 ∷ []) ∷ []
+  pub repne-scasw : listing off (meaning (withRepeat 0xF2 (noOperands span Op.SCASW))) ≡ (0xF2 ∷ 0xAF ∷ []) ∷ []
   -- TEST of memory and a register, in either order
   pub test-memory : listed off Op.TEST (indirectOperand span 7 (pos 0) OD.None OG.None) (registerOperand span 1 S.Byte)
       ≡ listed off Op.TEST (registerOperand span 1 S.Byte) (indirectOperand span 7 (pos 0) OD.None OG.None)
 
 pub rows : (off : ℕ) → Rows off
-unfolding forms canonical startingWith readForm prefix reads counted meant groupedOf sameOperand sameInstruction arithmeticImmediate arithmetic moveImmediate move exchange testImmediate test stack ret jump single startIn startOf stringOf candidate entry spelled key isWhole readsAs insertBy among numberOf
+unfolding forms canonical startingWith readForm prefix readPlain isRepeat repeats reads counted meant groupedOf sameOperand sameInstruction arithmeticImmediate arithmetic moveImmediate move exchange testImmediate test stack ret jump single startIn startOf stringOf candidate entry spelled key isWhole readsAs insertBy among isString numberOf
 rows off = record {
+  rep = refl;
+  repne = refl;
+  movsb = refl;
+  rep-movsb = refl;
+  repne-scasw = refl;
   add-ax-5 = refl;
   add-word-bx-5 = refl;
   xchg-cx-cx = refl;

@@ -90,7 +90,9 @@ string-bytes off p s m h =
 candidate-bytes : (off : ℕ) (m : Instruction) (i : ℕ) → Bytes (candidate off m i)
 unfolding candidate
 candidate-bytes off m i =
-    string-bytes off (pick (ltb i 6) 0 (prefixOf m)) (startOf m (i / 3 % 2) (i % 3)) m (picked (λ (n : ℕ). n < 256) (ltb i 6) (omega arith) (omega arith))
+    picked Bytes (eqb (m .repeat) 0)
+    (string-bytes off (pick (ltb i 6) 0 (prefixOf m)) (startOf m (i / 3 % 2) (i % 3)) m (picked (λ (n : ℕ). n < 256) (ltb i 6) (omega arith) (omega arith)))
+    (append-bytes (byteOf (m .repeat)) (byteOf (startOf m (i / 3 % 2) (i % 3) .opcode)) (byte-bytes (m .repeat)) (byte-bytes (startOf m (i / 3 % 2) (i % 3) .opcode)))
 
 -- ---- a string that the listing may have
 pub record Listed (off : ℕ) (m : Instruction) (s : List ℕ) : Type 0 where

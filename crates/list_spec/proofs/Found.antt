@@ -1,19 +1,29 @@
 -- No string is missing: whatever reads as an instruction to its last byte is one of the twelve candidates.
 -- Assumes nothing.
-use mathlib.Core.Path.{_≡_, refl, sym, _∙_}
+use mathlib.Core.Path.{_≡_, refl, sym, _∙_, ap}
 use Prim.Native.Nat.{ℕ, _+_, _/_, _%_, _<_}
 use native.Mathlib.Omega.{arith}
 use mathlib.Core.Bool.{Bool, true, false}
 use mathlib.Core.Logic.{_⊎_, inl, inr}
-use mathlib.Core.List.{List}
-use lib.Dec.{T, ltb, ltb→lt}
-use borrow.Author.Tests.{lt-ltb, le-ltb}
+use mathlib.Core.List.{List, [], _∷_, _++_}
+use lib.Dec.{T, eqb, ltb, ltb→lt}
+use lib.ListN.{length}
+use borrow.Author.Tests.{eqb-true, lt-ltb, le-ltb}
 use Rattle.mrc_compiler.specs.Choose.{pick, either}
+use Rattle.mrc_compiler.specs.Operations.{numberOf, isString}
+use Rattle.encode_groups.specs.Grouping.{groupedOf}
 use Rattle.x86.specs.declared.Instruction.{Instruction}
+use Rattle.x86.specs.declared.Read.the-variants.{Whole}
+use Rattle.x86.specs.Forms.{Form, forms}
+use Rattle.x86.specs.Reading.{readPlain, reads}
 use Rattle.x86.specs.Listing.{Bytes, ReadsAs}
+use Rattle.x86.proofs.Tests.{is-true, eachOf, each-at}
+use Rattle.x86.proofs.Repeats.{bare, single, Repeated, HowRead, with-repeat, without, how-read, repeat-byte, repeat-some, plain-repeat}
+use Rattle.x86.specs.Instructions.{repeated}
 use Rattle.list_spec.specs.declared.Start.{Start}
 use Rattle.list_spec.specs.Operands.{prefixOf}
-use Rattle.list_spec.specs.Starts.{startOf}
+use Rattle.list_spec.specs.Starts.{primary, startOf, startIn}
+use Rattle.list_spec.specs.Starts as St
 use Rattle.list_spec.specs.Candidates.{stringOf, candidate}
 use Rattle.list_spec.proofs.ByForm.{sameStart, start-eq}
 use Rattle.list_spec.proofs.Covered.{chosen}
@@ -49,19 +59,22 @@ pub record Found (off : ℕ) (s : List ℕ) (m : Instruction) : Type 0 where
   pub is : s ≡ candidate off m i
 
 at-index : (off : ℕ) (s : List ℕ) (m : Instruction) (p : ℕ) (start : Start) (i j : ℕ) → s ≡ stringOf off p start m → startAt m j ≡ start
-    → i / 3 % 2 ≡ j / 3 % 2 → i % 3 ≡ j % 3 → pick (ltb i 6) 0 (prefixOf m) ≡ p → s ≡ candidate off m i
+    → i / 3 % 2 ≡ j / 3 % 2 → i % 3 ≡ j % 3 → pick (ltb i 6) 0 (prefixOf m) ≡ p → m .repeat ≡ 0 → s ≡ candidate off m i
 unfolding candidate
-at-index off s m p start i j e es ew em ep = e ∙ sym (rw (ew, em, es, ep) refl)
+at-index off s m p start i j e es ew em ep z = e ∙ sym (rw (ew, em, es, ep, z) refl)
 
-pub none-missing : (off : ℕ) (s : List ℕ) (m : Instruction) → off < 65536 → Bytes s → ReadsAs off m s → Found off s m
-none-missing off s m h bs e = let w = written off s m h bs e in finish w (six m (w .start) (w .is-chosen)) (w .prefix-none)
+plain-found : (off : ℕ) (s : List ℕ) (m : Instruction) → off < 65536 → Bytes s → readPlain off s ≡ Whole m (length s) → Found off s m
+plain-found off s m h bs e = let w = written off s m h bs e in finish w (six m (w .start) (w .is-chosen)) (w .prefix-none)
   where
+    r : m .repeat ≡ 0
+    r = plain-repeat off s m (length s) e
+
     finish : (w : Written off s m) → Six m (w .start) → (w .p ≡ 0) ⊎ (w .p ≡ prefixOf m) → Found off s m
     finish w g (inl z) =
         record {
           i = g .j;
           below = omega (arith, g .below);
-          is = at-index off s m (w .p) (w .start) (g .j) (g .j) (w .is) (g .is) refl refl (rw (lt-ltb (g .j) 6 (g .below)) (sym z));
+          is = at-index off s m (w .p) (w .start) (g .j) (g .j) (w .is) (g .is) refl refl (rw (lt-ltb (g .j) 6 (g .below)) (sym z)) r;
         }
     finish w g (inr z) =
         record {
@@ -69,5 +82,41 @@ none-missing off s m h bs e = let w = written off s m h bs e in finish w (six m 
           below = omega (arith, g .below);
           is =
               at-index off s m (w .p) (w .start) (g .j + 6) (g .j) (w .is) (g .is) (omega arith) (omega arith)
-              (rw (le-ltb (g .j + 6) 6 (omega arith)) (sym z));
+              (rw (le-ltb (g .j + 6) 6 (omega arith)) (sym z)) r;
         }
+
+-- ---- with a repeat
+-- a string operation's start is its opcode
+abbrev ownStart : Form → Bool
+ownStart f = pick (isString (f .operation)) (eqb (startOf (bare (f .operation)) primary 0 .opcode % 256) (f .opcode)) true
+
+own-starts : T (eachOf ownStart forms)
+unfolding forms isString numberOf startOf startIn St.single groupedOf
+own-starts = tt
+
+repeat-found : (off : ℕ) (s : List ℕ) (m : Instruction) → ReadsAs off m s → Repeated off s → Found off s m
+unfolding candidate startOf
+repeat-found off s m e r = record { i = 0; below = omega arith; is = is-it (r .string .behind) (r .string .in-order) }
+  where
+    op-opcode : startOf (bare (r .string .op)) primary 0 .opcode % 256 ≡ r .string .c
+    op-opcode =
+        eqb-true _ _ (is-true _ (rw (r .string .is-string) at (each-at ownStart forms own-starts (r .string .listed))))
+
+    two : length s ≡ 2
+    two = let x = r .reads-it in cc
+
+    is-it : (t : List ℕ) → r .behind ≡ r .string .c ∷ t → s ≡ candidate off m 0
+    is-it [] q =
+        let x = r .reads-it in
+        let z : repeated (r .b) (bare (r .string .op)) ≡ m = cc in
+        let y : s ≡ r .b ∷ r .string .c ∷ [] = r .in-order ∙ ap (λ (l : List ℕ). r .b ∷ l) q in
+        let w : r .b % 256 ≡ r .b = omega (arith, repeat-byte (r .b) (r .is-repeat)) in
+        rw (← z, repeat-some (r .b) (r .is-repeat), op-opcode, w) y
+    is-it (x ∷ t) q = let y = two in absurd (omega (arith, y, ap length (r .in-order), ap length q))
+
+pub none-missing : (off : ℕ) (s : List ℕ) (m : Instruction) → off < 65536 → Bytes s → ReadsAs off m s → Found off s m
+none-missing off s m h bs e = go (how-read off s)
+  where
+    go : HowRead off s → Found off s m
+    go (with-repeat r) = repeat-found off s m e r
+    go (without n q) = plain-found off s m h bs (sym q ∙ e)

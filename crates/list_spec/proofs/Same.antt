@@ -75,18 +75,21 @@ unfolding sameInstruction
 instruction-eq i m t =
     let o = both (sameOperand (i .first) (m .first)) (sameOperand (i .second) (m .second)) in
     let w = both (eqb (sizeNumber (i .width)) (sizeNumber (m .width))) o in
-    let (t0, t1) = both-parts (sameOperation (i .operation) (m .operation)) w t in
+    let (r, s) = both-parts (eqb (i .repeat) (m .repeat)) (both (sameOperation (i .operation) (m .operation)) w) t in
+    let (t0, t1) = both-parts (sameOperation (i .operation) (m .operation)) w s in
+    let e = eqb→eq (i .repeat) (m .repeat) r in
     let (t2, t3) = both-parts (eqb (sizeNumber (i .width)) (sizeNumber (m .width))) o t1 in
     let (t4, t5) = both-parts (sameOperand (i .first) (m .first)) (sameOperand (i .second) (m .second)) t3 in
     let e0 = operation-eq (i .operation) (m .operation) t0 in
     let e1 = width-eq (i .width) (m .width) t2 in
     let e2 = operand-eq (i .first) (m .first) t4 in
     let e3 = operand-eq (i .second) (m .second) t5 in
-    λ j. record { operation = e0 j; width = e1 j; first = e2 j; second = e3 j }
+    λ j. record { repeat = e j; operation = e0 j; width = e1 j; first = e2 j; second = e3 j }
 
 pub instruction-same : (m : Instruction) → T (sameInstruction m m)
 unfolding sameInstruction
 instruction-same m =
-    both-true (sameOperation (m .operation) (m .operation)) _ (eqb-refl (numberOf (m .operation)))
+    both-true (eqb (m .repeat) (m .repeat)) _ (eqb-refl (m .repeat))
+    (both-true (sameOperation (m .operation) (m .operation)) _ (eqb-refl (numberOf (m .operation)))
     (both-true (eqb (sizeNumber (m .width)) (sizeNumber (m .width))) _ (eqb-refl (sizeNumber (m .width)))
-    (both-true (sameOperand (m .first) (m .first)) (sameOperand (m .second) (m .second)) (operand-same (m .first)) (operand-same (m .second))))
+    (both-true (sameOperand (m .first) (m .first)) (sameOperand (m .second) (m .second)) (operand-same (m .first)) (operand-same (m .second)))))

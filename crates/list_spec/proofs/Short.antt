@@ -133,4 +133,6 @@ string-short off p s m h =
 
 pub candidate-short : (off : ℕ) (m : Instruction) (i : ℕ) → length (candidate off m i) ≤ 7
 unfolding candidate
-candidate-short off m i = string-short off (pick (ltb i 6) 0 (prefixOf m)) (startOf m (i / 3 % 2) (i % 3)) m (start-most m (i / 3 % 2) (i % 3))
+candidate-short off m i =
+    picked (Within 7) (eqb (m .repeat) 0)
+    (string-short off (pick (ltb i 6) 0 (prefixOf m)) (startOf m (i / 3 % 2) (i % 3)) m (start-most m (i / 3 % 2) (i % 3))) (lit≤ tt)

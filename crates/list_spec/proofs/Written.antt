@@ -1,4 +1,4 @@
--- What is read to the last byte is the string of its instruction with some start.
+-- What is read to the last byte, without a repeat, is the string of its instruction with some start.
 -- Assumes nothing.
 use mathlib.Core.Path.{_≡_, refl, sym, _∙_, ap, ap₂, subst}
 use Prim.Native.Nat.{ℕ, zero, suc, _+_, _%_, _<_}
@@ -12,8 +12,8 @@ use Rattle.mrc_compiler.specs.Choose.{pick, either}
 use Rattle.x86.specs.declared.Instruction.{Instruction}
 use Rattle.x86.specs.declared.Read.the-variants.{Whole, Nothing, More}
 use Rattle.x86.specs.Forms.{Form, forms}
-use Rattle.x86.specs.Reading.{fits, some, startingWith, fitting, hasSecond, headLength, tailLength, namesMemory, mayNameMemory, instructionOf, readForm, readFirst, readSecond, readOpcode, prefix, reads}
-use Rattle.x86.specs.Listing.{Bytes, ReadsAs}
+use Rattle.x86.specs.Reading.{fits, some, startingWith, fitting, hasSecond, headLength, tailLength, namesMemory, mayNameMemory, instructionOf, readForm, readFirst, readSecond, readOpcode, prefix, readPlain}
+use Rattle.x86.specs.Listing.{Bytes}
 use Rattle.x86.proofs.Tests.{kept, some-false}
 use Rattle.x86.proofs.Unambiguous.{second-agrees}
 use Rattle.x86.proofs.ByForm.{more-not-whole, nothing-not-whole, pick-whole, in-forms}
@@ -169,8 +169,8 @@ from-parsed off p s₀ s m e h front r =
         let n : namesMemory (r .f) (r .x) ≡ true = rw (prefix-not-0 p q) at o in
         inr (sym (prefix-is off p (r .c) (r .x) (r .t) (r .f) (r .listed) q k n) ∙ ap prefixOf d)
 
-pub written : (off : ℕ) (s : List ℕ) (m : Instruction) → off < 65536 → Bytes s → ReadsAs off m s → Written off s m
-unfolding reads
+pub written : (off : ℕ) (s : List ℕ) (m : Instruction) → off < 65536 → Bytes s → readPlain off s ≡ Whole m (length s) → Written off s m
+unfolding readPlain
 written off [] m h bs e = absurd (more-not-whole e)
 written off (b ∷ s) m h bs e = go (prefix b) refl e
   where

@@ -50,6 +50,12 @@ stringOf off p s m =
     ++ (s .opcode % 256
     ∷ (secondBytes (s .second) (displacementOf m) ++ tailBytes (s .tail) off (displacementOf m) (valueOf m) (farSegmentOf m)))
 
+-- with a repeat: it and the opcode
+abbrev pub repeatedString : ℕ → ℕ → List ℕ
+repeatedString repeat opcode = byteOf repeat ++ byteOf opcode
+
 -- candidate i, below 12
 unfoldable pub candidate : ℕ → Instruction → ℕ → List ℕ
-candidate off m i = stringOf off (pick (ltb i 6) 0 (prefixOf m)) (startOf m (i / 3 % 2) (i % 3)) m
+candidate off m i =
+    let s = startOf m (i / 3 % 2) (i % 3) in
+    pick (eqb (m .repeat) 0) (stringOf off (pick (ltb i 6) 0 (prefixOf m)) s m) (repeatedString (m .repeat) (s .opcode))

@@ -54,6 +54,7 @@ sameOperand a b = both (sameType (typeOf a) (typeOf b)) (both (sameMemory a b) (
 
 unfoldable pub sameInstruction : Instruction → Instruction → Bool
 sameInstruction i m =
-    both (sameOperation (i .operation) (m .operation))
+    both (eqb (i .repeat) (m .repeat))
+    (both (sameOperation (i .operation) (m .operation))
     (both (eqb (sizeNumber (i .width)) (sizeNumber (m .width)))
-    (both (sameOperand (i .first) (m .first)) (sameOperand (i .second) (m .second))))
+    (both (sameOperand (i .first) (m .first)) (sameOperand (i .second) (m .second)))))

@@ -43,7 +43,7 @@ module _ (s : Span) where
   }
 
   abbrev made : Operation → ℕ → OperandData → OperandData → InstructionData
-  made op count a b = record { operation = op; «num_opers» = count; opers = a ∷ b ∷ []; «opers_span» = s }
+  made op count a b = record { operation = op; «num_opers» = count; repeat = 0; opers = a ∷ b ∷ []; «opers_span» = s }
 
   record Rows : Type 0 where
     byte-al : registerOperand s (register (R.Byte B.Al)) (sizeFromSome (dataSizeOf (R.Byte B.Al))) ≡ operand K.Reg S.Byte 0 S.Unspecified J.None 3 0 (pos 0) (pos 0)

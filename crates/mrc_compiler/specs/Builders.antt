@@ -132,7 +132,7 @@ isDirect o = byKind (o .kind) false false false (isDirectAddress (o .mode) (o .r
 
 -- ---- instructions; an operand that is not given is an empty one
 abbrev pub instruction : Span → Operation → ℕ → OperandData → OperandData → InstructionData
-instruction span op count a b = record { operation = op; «num_opers» = count; opers = a ∷ b ∷ []; «opers_span» = span }
+instruction span op count a b = record { operation = op; «num_opers» = count; repeat = 0; opers = a ∷ b ∷ []; «opers_span» = span }
 
 abbrev pub noOperands : Span → Operation → InstructionData
 noOperands span op = instruction span op 0 (immediateOperand span (pos 0)) (immediateOperand span (pos 0))
@@ -142,3 +142,8 @@ oneOperand span op dst = instruction span op 1 dst (immediateOperand span (pos 0
 
 abbrev pub twoOperands : Span → Operation → OperandData → OperandData → InstructionData
 twoOperands span op dst src = instruction span op 2 dst src
+
+-- F2 or F3 before a string operation; the other builders make it 0
+abbrev pub withRepeat : ℕ → InstructionData → InstructionData
+withRepeat repeat insn =
+    record { operation = insn .operation; «num_opers» = insn .«num_opers»; repeat = repeat; opers = insn .opers; «opers_span» = insn .«opers_span» }

@@ -1,7 +1,7 @@
 -- The operations and their numbers: the place, from 0, in 002 (REFERENCE 2).
 -- Definitions only.
 use Prim.Native.Nat.{ℕ}
-use mathlib.Core.Bool.{Bool}
+use mathlib.Core.Bool.{Bool, false}
 use mathlib.Core.List.{List, [], _∷_}
 use lib.Dec.{eqb, ltb}
 use lib.ListN.{length, getD}
@@ -9,7 +9,7 @@ use Rattle.mrc_compiler.specs.declared.operations.Operation.{Operation}
 use Rattle.mrc_compiler.specs.declared.operations.Operation.the-variants as Op
 use Rattle.mrc_compiler.specs.declared.operations.OptionOperation.{OptionOperation}
 use Rattle.mrc_compiler.specs.declared.operations.OptionOperation.the-variants as O
-use Rattle.mrc_compiler.specs.Choose.{pick}
+use Rattle.mrc_compiler.specs.Choose.{pick, either}
 
 unfoldable pub numberOf : Operation → ℕ
 numberOf Op.MOV = 0
@@ -115,6 +115,17 @@ numberOf Op.SALC = 98
 -- are two operations the same?
 abbrev pub sameOperation : Operation → Operation → Bool
 sameOperation a b = eqb (numberOf a) (numberOf b)
+
+-- those that REP and REPNE repeat
+abbrev pub strings : List Operation
+strings = Op.MOVSB ∷ Op.MOVSW ∷ Op.CMPSB ∷ Op.CMPSW ∷ Op.SCASB ∷ Op.SCASW ∷ Op.LODSB ∷ Op.LODSW ∷ Op.STOSB ∷ Op.STOSW ∷ []
+
+abbrev pub oneOf : List Operation → Operation → Bool
+oneOf [] op = false
+oneOf (s ∷ l) op = either (sameOperation op s) (oneOf l op)
+
+unfoldable pub isString : Operation → Bool
+isString op = oneOf strings op
 
 -- in their order; proofs/Numbers shows that each stands at its number
 unfoldable pub operations : List Operation

@@ -29,6 +29,7 @@ reportOf (E.ImmediateOutOfRange s value low high) = report 5 s (outside value lo
 reportOf (E.RelativeJumpOutOfRange s size signed d) = report 6 s (distance d)
 reportOf (E.NotSupported s) = report 7 s none
 reportOf (E.NotWellFormed s) = report 8 s none
+reportOf (E.InvalidRepeat s) = report 23 s none
 reportOf (E.SliceTooShort s) = report 9 s none
 
 abbrev pub spanOf : EncodeError → Span

@@ -284,6 +284,7 @@ fn exchange_registers(operation: Operation, width: OperandSize, m: u8, n: u8) ->
 {
     if is_ax_ax(width, m, n) {
         return Instruction {
+            repeat: 0,
             operation: Operation::NOP,
             width: OperandSize::Unspecified,
             first: Operand::None,
@@ -292,6 +293,7 @@ fn exchange_registers(operation: Operation, width: OperandSize, m: u8, n: u8) ->
     }
     if n < m {
         return Instruction {
+            repeat: 0,
             operation,
             width,
             first: Operand::Register(n),
@@ -299,6 +301,7 @@ fn exchange_registers(operation: Operation, width: OperandSize, m: u8, n: u8) ->
         };
     }
     Instruction {
+        repeat: 0,
         operation,
         width,
         first: Operand::Register(m),
@@ -315,6 +318,7 @@ pub fn exchange(operation: Operation, width: OperandSize, a: Operand, b: Operand
         Number::Is(m) => match register_in(b) {
             Number::Is(n) => exchange_registers(operation, width, m, n),
             Number::None => Instruction {
+                repeat: 0,
                 operation,
                 width,
                 first: a,
@@ -322,6 +326,7 @@ pub fn exchange(operation: Operation, width: OperandSize, a: Operand, b: Operand
             },
         },
         Number::None => Instruction {
+            repeat: 0,
             operation,
             width,
             first: b,
@@ -342,6 +347,7 @@ pub fn register_first(
 {
     match register_in(a) {
         Number::Is(_) => Instruction {
+            repeat: 0,
             operation,
             width,
             first: a,
@@ -349,12 +355,14 @@ pub fn register_first(
         },
         Number::None => match register_in(b) {
             Number::Is(_) => Instruction {
+                repeat: 0,
                 operation,
                 width,
                 first: b,
                 second: a,
             },
             Number::None => Instruction {
+                repeat: 0,
                 operation,
                 width,
                 first: a,

@@ -1,35 +1,41 @@
 -- The cases of the reading by rows, from what the code learns on the way.
 -- Assumes nothing.
-use mathlib.Core.Path.{_≡_, refl, sym, _∙_}
+use mathlib.Core.Path.{_≡_, refl, sym, _∙_, ap}
+use mathlib.Core.Logic.{_⊎_, inl, inr}
 use Prim.Native.Nat.{ℕ, suc, _+_, _-_, _≤_, _<_}
 use native.Mathlib.Omega.{arith}
 use mathlib.Core.Bool.{Bool, true, false}
-use mathlib.Core.List.{List, [], _∷_}
-use lib.Dec.{eqb, leb}
+use mathlib.Core.List.{List, [], _∷_, List·Memᴰ}
+use lib.Dec.{T, eqb, ltb, leb}
 use lib.ListN.{length, take, drop, getD, length-drop}
 use lib.Seq.{take-all}
-use borrow.Author.Tests.{eq-eqb, ne-eqb, lt-ltb, le-ltb, le-leb, lt-leb}
+use borrow.Author.Tests.{eq-eqb, ne-eqb, ltb-true, ltb-false, lt-ltb, le-ltb, le-leb, lt-leb}
 use Rattle.mrc_compiler.specs.declared.encoder.OperandSize.{OperandSize}
 use Rattle.mrc_compiler.specs.declared.operations.Operation.{Operation}
 use Rattle.mrc_compiler.specs.declared.operations.Operation.the-variants.{TEST}
 use Rattle.mrc_compiler.specs.Choose.{pick, both, either, bySize}
-use Rattle.mrc_compiler.specs.Operations.{sameOperation}
+use Rattle.mrc_compiler.specs.Operations.{numberOf, sameOperation, operations, isString}
+use Rattle.mrc_compiler.proofs.Numbers.{operation-eq}
+use Rattle.mrc_compiler.specs.declared.operations.OptionOperation.{OptionOperation}
+use Rattle.mrc_compiler.specs.declared.operations.OptionOperation.the-variants as D
 use Rattle.x86_forms.specs.declared.FormName.{FormName}
 use Rattle.x86.specs.declared.Operand.{Operand}
 use Rattle.x86.specs.declared.Instruction.{Instruction}
 use Rattle.x86.specs.declared.Read.{Read}
 use Rattle.x86.specs.declared.Read.the-variants as R
 use Rattle.x86.specs.declared.Operand.the-variants as O
-use Rattle.x86.specs.Forms.{Slot, rm, rm-near, mem, mem-far, reg, sreg, sreg-not-cs, acc, low3, bits34, bits34-not-cs, CL, DX, one, moffs, xlat, ib, iw, ib-sx, cb, cw, ptr, nil}
+use Rattle.x86.specs.Forms.{Slot, rm, rm-near, mem, mem-far, reg, sreg, sreg-not-cs, acc, low3, bits34, bits34-not-cs, CL, DX, one, moffs, xlat, ib, iw, ib-sx, cb, cw, ptr, nil, Form, forms}
 use Rattle.x86.specs.Instructions.{byRegister, memoryFirst, canonical}
 use Rattle.x86.specs.Listing.{Bytes}
-use Rattle.x86.specs.Reading.{About, about, at, widthOf, addressLength, hasSecond, headLength, memoryLength, tailLength, inMemory, namesMemory, readForm, prefix, reads}
-use Rattle.x86.specs.Rows.{Shape, rows}
-use Rattle.read_table.specs.Rows.{testsRegister, extensionAt, shapeForm, anyForm, formAt}
+use Rattle.x86.specs.Reading.{About, about, at, widthOf, addressLength, hasSecond, headLength, memoryLength, tailLength, inMemory, namesMemory, some, startingWith, readForm, prefix, readPlain, isRepeat, beginsString, repeats, reads}
+use Rattle.x86.specs.Rows.{plain, Shape, rows}
+use Rattle.x86.proofs.Repeats.{bare, single, string-at}
+use Rattle.x86.proofs.Tests.{same, same-is, upTo, upTo-at, eachOf, each-at}
+use Rattle.read_table.specs.Rows.{foundOf, testsRegister, extensionAt, shapeForm, anyForm, formAt}
 use Rattle.reader.specs.declared.Decoded.{Decoded}
 use Rattle.reader.specs.declared.Decoded.the-variants.{Whole, Nothing, More}
-use Rattle.reader.specs.Answer.{formOf, withForm, decoded}
-use Rattle.reader.specs.ByRow.{decodedShape, shapeWith, mayFollow, decodedOpcode}
+use Rattle.reader.specs.Answer.{formPlain, formOf, withForm, decoded}
+use Rattle.reader.specs.ByRow.{decodedShape, shapeWith, mayFollow, decodedOpcode, decodedPlain, decodedRepeat}
 use Rattle.reader.proofs.ByRow.{opcode-by-row}
 
 pub ruleset tests = (eq-eqb, ne-eqb, lt-ltb, le-ltb, le-leb, lt-leb)
@@ -203,21 +209,111 @@ module _ (off p n : ℕ) (f : Shape) (b : Bool) where
             rw (← (o .row), ne-eqb n 0 (o .used), ← (o .shape), sym (o .follows) ∙ e, sym ek ∙ q) (rw (d, eg, w, ← (o .shape), rest 1 (c ∷ t)) at z)
 
 -- ---- from the front
-pub read-empty : (off : ℕ) (s : List ℕ) → length s ≤ 0 → More ≡ decoded off s
-unfolding decoded reads
+pub read-empty : (off : ℕ) (s : List ℕ) → length s ≤ 0 → More ≡ decodedPlain off s
+unfolding decodedPlain readPlain
 read-empty off [] h = refl
 read-empty off (c ∷ t) h = absurd (omega arith)
 
 -- from where the opcode stands: behind a prefix, or at the front
 pub read-on : (off : ℕ) (s : List ℕ) (n p : ℕ) (r : Decoded) → 0 < length s → Bytes s → n ≡ pick (prefix (getD s 0 0)) 1 0
-    → p ≡ pick (prefix (getD s 0 0)) (getD s 0 0) 0 → r ≡ decodedOpcode off p (take (length s - n) (drop n s)) → r ≡ decoded off s
-unfolding decoded reads
+    → p ≡ pick (prefix (getD s 0 0)) (getD s 0 0) 0 → r ≡ decodedOpcode off p (take (length s - n) (drop n s)) → r ≡ decodedPlain off s
+unfolding decodedPlain readPlain
 read-on off [] n p r h bs en ep z = absurd (omega arith)
 read-on off (c ∷ t) n p r h bs en ep z = go (prefix c) refl en ep
   where
-    go : (b : Bool) → prefix c ≡ b → n ≡ pick b 1 0 → p ≡ pick b c 0 → r ≡ decoded off (c ∷ t)
+    go : (b : Bool) → prefix c ≡ b → n ≡ pick b 1 0 → p ≡ pick b c 0 → r ≡ decodedPlain off (c ∷ t)
     go true q en ep = rw q ((rw (en, ep, rest 1 (c ∷ t)) at z) ∙ opcode-by-row off c t (λ i. bs (suc i)))
     go false q en ep = rw q ((rw (en, ep, rest 0 (c ∷ t)) at z) ∙ opcode-by-row off 0 (c ∷ t) bs)
+
+-- ---- with a repeat
+-- the string operations' bytes, by a computed test
+abbrev stringByte : ℕ → Bool
+stringByte c = pick (ltb c 0xA4) false (pick (ltb c 0xA8) true (pick (ltb c 0xAA) false (ltb c 0xB0)))
+
+string-bytes : T (upTo 256 (λ c. same (stringByte c) (some (λ f. isString (f .operation)) (startingWith c))))
+unfolding startingWith forms isString numberOf
+string-bytes = tt
+
+pub string-byte : (c : ℕ) → c < 256 → stringByte c ≡ some (λ f. isString (f .operation)) (startingWith c)
+string-byte c h = same-is (stringByte c) _ (upTo-at 256 (λ c. same (stringByte c) (some (λ f. isString (f .operation)) (startingWith c))) string-bytes c h)
+
+pub string-range : (c : ℕ) → c < 256 → some (λ f. isString (f .operation)) (startingWith c) ≡ true → ((0xA4 ≤ c) × (c < 0xA8)) ⊎ ((0xAA ≤ c) × (c < 0xB0))
+string-range c h e = go (ltb c 0xA4) (ltb c 0xA8) (ltb c 0xAA) refl refl refl (string-byte c h ∙ e)
+  where
+    go : (x y z : Bool) → ltb c 0xA4 ≡ x → ltb c 0xA8 ≡ y → ltb c 0xAA ≡ z → pick x false (pick y true (pick z false (ltb c 0xB0))) ≡ true → ((0xA4 ≤ c) × (c < 0xA8)) ⊎ ((0xAA ≤ c) × (c < 0xB0))
+    go true y z p q r e = let w : _≡_ {A = ℕ} 0 1 = cc in absurd (omega arith)
+    go false true z p q r e = inl (ltb-false c 0xA4 p, ltb-true c 0xA8 q)
+    go false false true p q r e = let w : _≡_ {A = ℕ} 0 1 = cc in absurd (omega arith)
+    go false false false p q r e = inr (ltb-false c 0xAA r, ltb-true c 0xB0 e)
+
+pub short-not : (s : List ℕ) → length s < 2 → repeats s ≡ false
+unfolding repeats
+short-not [] h = refl
+short-not (b ∷ []) h = both-no (isRepeat b)
+short-not (b ∷ c ∷ s) h = absurd (omega arith)
+
+pub two-repeat : (s : List ℕ) → 2 ≤ length s → repeats s ≡ both (isRepeat (getD s 0 0)) (some (λ f. isString (f .operation)) (startingWith (getD s 1 0)))
+unfolding repeats
+two-repeat [] h = absurd (omega arith)
+two-repeat (b ∷ []) h = absurd (omega arith)
+two-repeat (b ∷ c ∷ s) h = refl
+
+pub plain-decoded : (off : ℕ) (s : List ℕ) → repeats s ≡ false → decodedPlain off s ≡ decoded off s
+unfolding decoded decodedPlain reads readPlain
+plain-decoded off [] e = refl
+plain-decoded off (b ∷ s) e = rw e refl
+
+both-second : (a b : Bool) → both a b ≡ true → b ≡ true
+both-second true b e = e
+both-second false b e = let z : _≡_ {A = ℕ} 0 1 = cc in absurd (omega arith)
+
+-- the table's operation of a string operation's byte, by a computed test
+abbrev isSome : OptionOperation → Operation → Bool
+isSome D.None op = false
+isSome (D.Some o) op = sameOperation o op
+
+abbrev found : Form → Bool
+found f = pick (isString (f .operation)) (isSome (foundOf plain (f .opcode) 0) (f .operation)) true
+
+all-found : T (eachOf found forms)
+unfolding forms operations isString numberOf
+all-found = tt
+
+some-is : (o : OptionOperation) (op : Operation) → T (isSome o op) → o ≡ D.Some op
+some-is D.None op t = absurd t
+some-is (D.Some o) op t = ap D.Some (operation-eq o op t)
+
+repeat-as : (off b c : ℕ) (s : List ℕ) (op : Operation) → repeats (b ∷ c ∷ s) ≡ true → readPlain off (c ∷ s) ≡ R.Whole (bare op) 1 → prefix c ≡ false
+    → startingWith c ≡ single c op ∷ [] → foundOf plain c 0 ≡ D.Some op → decodedRepeat b c ≡ decoded off (b ∷ c ∷ s)
+unfolding decoded reads
+repeat-as off b c s op e r p f o = rw (o, e, r, p, f) refl
+
+repeat-decoded : (off b c : ℕ) (s : List ℕ) → repeats (b ∷ c ∷ s) ≡ true → decodedRepeat b c ≡ decoded off (b ∷ c ∷ s)
+unfolding repeats
+repeat-decoded off b c s e =
+    let r = string-at off (c ∷ s) (both-second (isRepeat b) (beginsString (c ∷ s)) e) in
+    go (r .c) (r .op) (cc (r .in-order)) (r .reads-it) (r .no-prefix) (r .one-form)
+    (some-is (foundOf plain (r .c) 0) (r .op) (rw (r .is-string) at (each-at found forms all-found (r .listed))))
+  where
+    go : (d : ℕ) (op : Operation) → d ≡ c → readPlain off (c ∷ s) ≡ R.Whole (bare op) 1 → prefix d ≡ false → startingWith d ≡ single d op ∷ []
+        → foundOf plain d 0 ≡ D.Some op → decodedRepeat b c ≡ decoded off (b ∷ c ∷ s)
+    go d op z r p f o = repeat-as off b c s op e r (rw z at p) (rw z at f) (rw z at o)
+
+-- of two bytes or more
+pub with-repeat : (off : ℕ) (s : List ℕ) → repeats s ≡ true → decodedRepeat (getD s 0 0) (getD s 1 0) ≡ decoded off s
+unfolding repeats
+with-repeat off [] e = let z : _≡_ {A = ℕ} 0 1 = cc in absurd (omega arith)
+with-repeat off (b ∷ []) e = let y = both-second (isRepeat b) false e in let z : _≡_ {A = ℕ} 0 1 = cc in absurd (omega arith)
+with-repeat off (b ∷ c ∷ s) e = repeat-decoded off b c s e
+
+pub two-bytes : (s : List ℕ) → repeats s ≡ true → 2 ≤ length s
+unfolding repeats
+two-bytes [] e = let z : _≡_ {A = ℕ} 0 1 = cc in absurd (omega arith)
+two-bytes (b ∷ []) e = let y = both-second (isRepeat b) false e in let z : _≡_ {A = ℕ} 0 1 = cc in absurd (omega arith)
+two-bytes (b ∷ c ∷ s) e = omega arith
+
+pub string-behind : (s : List ℕ) → repeats s ≡ true → some (λ f. isString (f .operation)) (startingWith (getD s 1 0)) ≡ true
+string-behind s e = both-second (isRepeat (getD s 0 0)) _ (sym (two-repeat s (two-bytes s e)) ∙ e)
 
 -- ---- without the form
 module _ (off : ℕ) (s : List ℕ) where

@@ -4,6 +4,7 @@
 use mathlib.Core.Path.{_≡_, refl, sym}
 use Prim.Native.Nat.{ℕ, _≤_}
 use native.Mathlib.Omega.{arith}
+use mathlib.Core.Bool.{false}
 use mathlib.Core.List.{List, _++_}
 use lib.ListN.{length}
 use Rattle.x86.specs.declared.Instruction.{Instruction}
@@ -11,7 +12,7 @@ use Rattle.x86.specs.declared.Read.{Read}
 use Rattle.x86.specs.declared.Read.the-variants as R
 use Rattle.x86.specs.Listing.{Bytes}
 use Rattle.x86.specs.Reading.{reads}
-use Rattle.x86.proofs.Extend.{Continues, answers}
+use Rattle.x86.proofs.Extend.{isRepeatAlone, Continues, answers}
 use Rattle.x86.proofs.Sizes.{read-size}
 use Rattle.x86_forms.specs.declared.FormName.{FormName}
 use Rattle.reader.specs.declared.Refusal.the-variants as N
@@ -31,9 +32,9 @@ pub record Questions (off : ℕ) (s : List ℕ) : Type 0 where
   -- 11 exactly where it is not complete, and a continuation makes it one
   pub eleven : refusalOf (decoded off s) ≡ N.Is 11 → (Begins off s → ⊥) × Continues off s
   pub eleven-only : (Begins off s → ⊥) → Continues off s → refusalOf (decoded off s) ≡ N.Is 11
-  -- its length is 1 to 7 and no more than the slice has, and later bytes are not looked at
+  -- its length is 1 to 7 and no more than the slice has; later bytes are not looked at, but behind F2 or F3 alone
   pub long : (m : Instruction) (n : ℕ) → reads off s ≡ R.Whole m n → (1 ≤ n) × (n ≤ 7) × (n ≤ length s)
-  pub later : (t : List ℕ) (m : Instruction) (n : ℕ) → reads off s ≡ R.Whole m n → reads off (s ++ t) ≡ R.Whole m n
+  pub later : (t : List ℕ) (m : Instruction) (n : ℕ) → isRepeatAlone s ≡ false → reads off s ≡ R.Whole m n → reads off (s ++ t) ≡ R.Whole m n
 
 -- the numbers differ
 ten-eleven : N.Is 10 ≡ N.Is 11 → ⊥
@@ -71,5 +72,5 @@ questions off s bs =
       eleven = λ e. let (h, k) = a .eleven (says-eleven (reads off s) (formOf s) e) in (λ (m, n, w). h m n w, k);
       eleven-only = λ h k. rw (a .eleven-only (λ m n w. h (m, n, w)) k) refl;
       long = λ m n w. let (i, j) = read-size off s m n w in (i, j, a .fits-in m n w);
-      later = λ t m n w. a .behind t m n w;
+      later = λ t m n h w. a .behind t m n h w;
     }

@@ -9,7 +9,7 @@ use Rattle.x86.specs.declared.Read.{Read}
 use Rattle.x86.specs.declared.Read.the-variants as R
 use Rattle.x86.specs.Forms.{Form}
 use Rattle.read_table.specs.Rows.{nameOf, noForm}
-use Rattle.x86.specs.Reading.{some, startingWith, fitting, hasSecond, prefix, reads}
+use Rattle.x86.specs.Reading.{some, startingWith, fitting, hasSecond, prefix, repeats, reads}
 use Rattle.reader.specs.declared.Decoded.{Decoded}
 use Rattle.reader.specs.declared.Decoded.the-variants.{Whole, Nothing, More}
 use Rattle.reader.specs.declared.Refusal.{Refusal}
@@ -28,9 +28,14 @@ abbrev pub formBehind : List ℕ → FormName
 formBehind [] = noForm
 formBehind (c ∷ t) = firstOf (goingOn (startingWith c) t)
 
+abbrev pub formPlain : List ℕ → FormName
+formPlain [] = noForm
+formPlain (b ∷ s) = pick (prefix b) (formBehind s) (formBehind (b ∷ s))
+
+-- behind a repeat it is the string operation's
 abbrev pub formOf : List ℕ → FormName
 formOf [] = noForm
-formOf (b ∷ s) = pick (prefix b) (formBehind s) (formBehind (b ∷ s))
+formOf (b ∷ s) = pick (repeats (b ∷ s)) (formPlain s) (formPlain (b ∷ s))
 
 abbrev pub withForm : Read → FormName → Decoded
 withForm (R.Whole m n) f = Whole m f n

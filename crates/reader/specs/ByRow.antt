@@ -1,4 +1,4 @@
--- The reading by rows, as the code does it.
+-- The reading by rows, as the code does it, and what it makes of a repeat.
 -- Nobody has to believe it: proofs/ByRow shows that it is the reading by forms.
 -- Definitions only.
 use Prim.Native.Nat.{ℕ}
@@ -10,13 +10,17 @@ use Rattle.mrc_compiler.specs.declared.operations.Operation.{Operation}
 use Rattle.mrc_compiler.specs.Choose.{pick, either}
 use Rattle.x86.specs.declared.Read.{Read}
 use Rattle.x86.specs.declared.Read.the-variants as R
-use Rattle.x86.specs.Reading.{digit, hasSecond, mayNameMemory, readForm}
-use Rattle.x86.specs.Rows.{Shape, rows, shapeNumbered, byDigit}
+use Rattle.x86.specs.Reading.{digit, hasSecond, mayNameMemory, readForm, readPlain}
+use Rattle.x86.specs.Instructions.{instruction, repeated}
+use Rattle.x86.specs.declared.Operand.the-variants as O
+use Rattle.mrc_compiler.specs.declared.encoder.OperandSize.the-variants as S
+use Rattle.x86.specs.Rows.{plain, Shape, rows, shapeNumbered, byDigit}
 use Rattle.mrc_compiler.specs.declared.operations.OptionOperation.{OptionOperation}
 use Rattle.mrc_compiler.specs.declared.operations.OptionOperation.the-variants as D
-use Rattle.read_table.specs.Rows.{noForm, foundAt, extensionAt, shapeForm, anyForm, formAt}
+use Rattle.read_table.specs.Rows.{noForm, foundOf, foundAt, extensionAt, shapeForm, anyForm, formAt}
 use Rattle.reader.specs.declared.Decoded.{Decoded}
-use Rattle.reader.specs.Answer.{withForm}
+use Rattle.reader.specs.declared.Decoded.the-variants.{Whole, Nothing, More}
+use Rattle.reader.specs.Answer.{formPlain, withForm}
 
 abbrev pub byFound : {A : Type 0} → OptionOperation → A → (Operation → A) → A
 byFound D.None n f = n
@@ -54,3 +58,12 @@ decodedRow off p n c t = pick (eqb n 0) (withForm R.Nothing noForm) (decodedBehi
 unfoldable pub decodedOpcode : ℕ → ℕ → List ℕ → Decoded
 decodedOpcode off p [] = withForm R.More noForm
 decodedOpcode off p (c ∷ t) = decodedRow off p (getD rows c 0) c t
+
+-- without a repeat
+unfoldable pub decodedPlain : ℕ → List ℕ → Decoded
+decodedPlain off s = withForm (readPlain off s) (formPlain s)
+
+-- the string operation c, which is one byte, behind the repeat b
+abbrev pub decodedRepeat : ℕ → ℕ → Decoded
+decodedRepeat b c =
+    byFound (foundOf plain c 0) Nothing (λ op. Whole (repeated b (instruction op S.Unspecified O.None O.None)) (formAt plain c 0) 2)

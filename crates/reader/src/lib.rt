@@ -4,15 +4,16 @@ ghost use Prim.Native.Nat.{_+_, _≤_, _<_};
 ghost use lib.Dec.{eqb};
 ghost use lib.ListN.{length, getD, drop};
 ghost use Rattle.mrc_compiler.specs.declared.operations.Operation.the-variants.{XCHG, TEST};
+ghost use Rattle.mrc_compiler.specs.declared.operations.OptionOperation.the-variants.{Some};
 ghost use mathlib.Core.Bool.{true};
 ghost use Rattle.mrc_compiler.specs.Choose.{pick, both, either, bySize};
-ghost use Rattle.mrc_compiler.specs.Operations.{sameOperation};
+ghost use Rattle.mrc_compiler.specs.Operations.{sameOperation, isString};
 ghost use Rattle.x86.specs.Instructions.{memoryFirst, canonical};
-ghost use Rattle.x86.specs.Reading.{about, at, addressLength, hasSecond, inMemory, readForm, prefix, reads};
-ghost use Rattle.x86.specs.Rows.{rows};
-ghost use Rattle.read_table.specs.Rows.{exchanges, testsRegister, extensionAt, shapeForm, formAt};
+ghost use Rattle.x86.specs.Reading.{about, at, addressLength, hasSecond, inMemory, some, startingWith, readForm, prefix, repeats, reads};
+ghost use Rattle.x86.specs.Rows.{plain, rows};
+ghost use Rattle.read_table.specs.Rows.{exchanges, testsRegister, extensionAt, shapeForm, foundOf, formAt};
 ghost use Rattle.reader.specs.Answer.{withForm, decoded, refusalOf};
-ghost use Rattle.reader.specs.ByRow.{mayFollow, decodedShape, shapeWith, decodedOpcode};
+ghost use Rattle.reader.specs.ByRow.{mayFollow, decodedShape, shapeWith, decodedOpcode, decodedPlain, decodedRepeat};
 use mrc_compiler::encoder::OperandSize;
 use mrc_compiler::operations::Operation;
 use mrc_compiler::operations::OptionOperation;
@@ -21,6 +22,7 @@ use x86::Operand;
 use x86::Read;
 use x86_forms::About;
 use x86_forms::Class;
+use x86_forms::Extension;
 use x86_forms::FormName;
 use x86_forms::Place;
 use x86_forms::Shape;
@@ -125,6 +127,7 @@ fn settled(c: u8, operation: Operation, width: OperandSize, a: Operand, b: Opera
         return read_slots::register_first(operation, width, a, b);
     }
     Instruction {
+        repeat: 0,
         operation,
         width,
         first: a,
@@ -312,9 +315,9 @@ pub fn opcode_start(b: u8) -> usize
     if is_prefix(b) { 1 } else { 0 }
 }
 
-// What stands at the front of the bytes, with the form by which it reads; near targets are for this offset.
-pub fn read(bytes: &[u8], offset: u16) -> Decoded
-    ensures { λ r. ⌜ r ≡ decoded offset (now (bytes .entry)) ⌝ }
+// The bytes read as if F2 and F3 were always instructions of their own.
+fn read_plain(bytes: &[u8], offset: u16) -> Decoded
+    ensures { λ r. ⌜ r ≡ decodedPlain offset (now (bytes .entry)) ⌝ }
 {
     if 0 < bytes.len() {
         let b = bytes[0];
@@ -322,6 +325,83 @@ pub fn read(bytes: &[u8], offset: u16) -> Decoded
         return read_opcode(prefix_of(b), &bytes[start..], offset);
     }
     Decoded::More
+}
+
+// A4 to A7, AA to AF.
+fn begins_string(c: u8) -> bool
+    ensures { λ r. ⌜ r ≡ some (λ f. isString (f .operation)) (startingWith c) ⌝ }
+{
+    if c < 0xA4 {
+        return false;
+    }
+    if c < 0xA8 {
+        return true;
+    }
+    if c < 0xAA {
+        return false;
+    }
+    c < 0xB0
+}
+
+// Do the bytes begin with F2 or F3 and a string operation?
+fn repeats_string(bytes: &[u8]) -> bool
+    ensures { λ r. ⌜ r ≡ repeats (now (bytes .entry)) ⌝ }
+{
+    if bytes.len() < 2 {
+        return false;
+    }
+    if x86::is_repeat(bytes[0]) {
+        return begins_string(bytes[1]);
+    }
+    false
+}
+
+// The string operation c. Not by the table: a second caller of its search would make every read slower.
+fn string_operation(c: u8) -> Operation
+    requires { ⌜ some (λ f. isString (f .operation)) (startingWith c) ≡ true ⌝ }
+    ensures { λ r. ⌜ foundOf plain c 0 ≡ Some r ⌝ }
+{
+    match c {
+        0xA4 => Operation::MOVSB,
+        0xA5 => Operation::MOVSW,
+        0xA6 => Operation::CMPSB,
+        0xA7 => Operation::CMPSW,
+        0xAA => Operation::STOSB,
+        0xAB => Operation::STOSW,
+        0xAC => Operation::LODSB,
+        0xAD => Operation::LODSW,
+        0xAE => Operation::SCASB,
+        _ => Operation::SCASW,
+    }
+}
+
+// The string operation c, which is one byte, behind its repeat.
+fn read_repeated(repeat: u8, c: u8) -> Decoded
+    requires { ⌜ some (λ f. isString (f .operation)) (startingWith c) ≡ true ⌝ }
+    ensures { λ r. ⌜ r ≡ decodedRepeat repeat c ⌝ }
+{
+    let operation = string_operation(c);
+    Decoded::Whole(
+        Instruction {
+            repeat,
+            operation,
+            width: OperandSize::Unspecified,
+            first: Operand::None,
+            second: Operand::None,
+        },
+        FormName { opcode: c, extension: Extension::None },
+        2,
+    )
+}
+
+// What stands at the front of the bytes, with the form by which it reads; near targets are for this offset.
+pub fn read(bytes: &[u8], offset: u16) -> Decoded
+    ensures { λ r. ⌜ r ≡ decoded offset (now (bytes .entry)) ⌝ }
+{
+    if repeats_string(bytes) {
+        return read_repeated(bytes[0], bytes[1]);
+    }
+    read_plain(bytes, offset)
 }
 
 // The same without the form.

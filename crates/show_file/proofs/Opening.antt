@@ -47,7 +47,7 @@ is-count limit l m n = go (leb l n) (leb n m) (leb n limit) refl refl
 -- ---- a file that opens has the length of its records
 pub record Exact (limit : ℕ) (file : List ℕ) (h : Header) : Type 0 where
   pub its-header : header file ≡ h
-  pub its-length : length file ≡ recordPlace (h .count)
+  pub its-length : length file ≡ recordPlace file (h .count)
   pub its-count : h .count ≤ mostRecords
   pub its-limit : h .count ≤ limit
 
@@ -56,14 +56,14 @@ module _ (limit : ℕ) (file : List ℕ) (P : Opened → Type 0) (no-mark : P (O
     (wrong-length : P (O.Refused E.WrongLength)) (show : Exact limit file (header file) → P (O.Show (header file))) where
   with-counts : (c : Counts) → countsIn versions (header file .version) ≡ c → P (counted limit file (header file) c)
   with-counts C.None q = wrong-version
-  with-counts (C.Between l m) q = go (isCount limit l m (header file .count)) (eqb (length file) (recordPlace (header file .count))) refl refl
+  with-counts (C.Between l m) q = go (isCount limit l m (header file .count)) (eqb (length file) (recordPlace file (header file .count))) refl refl
     where
-      go : (d e : Bool) → isCount limit l m (header file .count) ≡ d → eqb (length file) (recordPlace (header file .count)) ≡ e
+      go : (d e : Bool) → isCount limit l m (header file .count) ≡ d → eqb (length file) (recordPlace file (header file .count)) ≡ e
           → P (pick (both d e) (O.Show (header file)) (O.Refused E.WrongLength))
       go true true hd he =
           let (a, b) = is-count limit l m (header file .count) hd in
           let w = within versions (header file .version) l m refl q in
-          show (record { its-header = refl; its-length = eqb-true (length file) (recordPlace (header file .count)) he; its-count = omega arith; its-limit = b })
+          show (record { its-header = refl; its-length = eqb-true (length file) (recordPlace file (header file .count)) he; its-count = omega arith; its-limit = b })
       go true false hd he = wrong-length
       go false e hd he = wrong-length
 

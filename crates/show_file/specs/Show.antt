@@ -7,7 +7,7 @@ use lib.Dec.{eqb, leb}
 use lib.ListN.{length, take, drop}
 use Rattle.mrc_compiler.specs.declared.encoder.InstructionData.{InstructionData}
 use Rattle.mrc_compiler.specs.Choose.{pick, both, isnt}
-use Rattle.show_record.specs.Record.{recordLength, byteAt, instructionAt, codesKnown}
+use Rattle.show_record.specs.Record.{recordLength, repeatLength, byteAt, instructionAt, codesKnown}
 use Rattle.show_file.specs.declared.Counts.{Counts}
 use Rattle.show_file.specs.declared.Counts.the-variants as C
 use Rattle.show_file.specs.declared.Header.{Header}
@@ -28,17 +28,19 @@ countPlace = 7
 abbrev pub headerLength : ℕ
 headerLength = 9
 
--- ---- the versions: how many records a file of each has
+-- ---- the versions: how many records a file of each has, and how many bytes a record
 pub record Version : Type 0 where
   pub number : ℕ
   pub fewest : ℕ
   pub most : ℕ
+  pub each : ℕ
 
-abbrev version : ℕ → ℕ → ℕ → Version
-version v l m = record { number = v; fewest = l; most = m }
+abbrev version : ℕ → ℕ → ℕ → ℕ → Version
+version v l m n = record { number = v; fewest = l; most = m; each = n }
 
+-- a record of version 3 has a repeat
 abbrev pub versions : List Version
-versions = version 1 0 1000 ∷ version 2 1001 8000 ∷ []
+versions = version 1 0 1000 recordLength ∷ version 2 1001 8000 recordLength ∷ version 3 0 8000 (recordLength + repeatLength) ∷ []
 
 -- of any version
 abbrev pub mostRecords : ℕ
@@ -47,6 +49,11 @@ mostRecords = 8000
 abbrev pub countsIn : List Version → ℕ → Counts
 countsIn [] v = C.None
 countsIn (r ∷ rs) v = pick (eqb v (r .number)) (C.Between (r .fewest) (r .most)) (countsIn rs v)
+
+-- the bytes of a record; of no version as of the first
+abbrev pub eachIn : List Version → ℕ → ℕ
+eachIn [] v = recordLength
+eachIn (r ∷ rs) v = pick (eqb v (r .number)) (r .each) (eachIn rs v)
 
 -- "FSQ"
 unfoldable pub hasMark : List ℕ → Bool
@@ -59,12 +66,16 @@ abbrev pub header : List ℕ → Header
 header file = record { version = u16At file versionPlace; origin = u16At file originPlace; count = u16At file countPlace }
 
 -- ---- the records
+-- the bytes of each
+unfoldable pub recordBytes : List ℕ → ℕ
+recordBytes file = eachIn versions (u16At file versionPlace)
+
 -- where record k begins
-abbrev pub recordPlace : ℕ → ℕ
-recordPlace k = headerLength + recordLength * k
+abbrev pub recordPlace : List ℕ → ℕ → ℕ
+recordPlace file k = headerLength + recordBytes file * k
 
 abbrev pub recordAt : List ℕ → ℕ → List ℕ
-recordAt file k = take recordLength (drop (recordPlace k) file)
+recordAt file k = take (recordBytes file) (drop (recordPlace file k) file)
 
 abbrev pub insnAt : List ℕ → ℕ → InstructionData
 insnAt file k = instructionAt (recordAt file k)
@@ -77,7 +88,7 @@ isCount limit fewest most n = both (leb fewest n) (both (leb n most) (leb n limi
 abbrev pub counted : ℕ → List ℕ → Header → Counts → Opened
 counted limit file h C.None = O.Refused E.WrongVersion
 counted limit file h (C.Between fewest most) =
-    pick (both (isCount limit fewest most (h .count)) (eqb (length file) (recordPlace (h .count)))) (O.Show h) (O.Refused E.WrongLength)
+    pick (both (isCount limit fewest most (h .count)) (eqb (length file) (recordPlace file (h .count)))) (O.Show h) (O.Refused E.WrongLength)
 
 unfoldable pub headed : ℕ → List ℕ → Opened
 headed limit file =

@@ -1,10 +1,10 @@
 // The show file: its header and records, and the questions about the file itself (REFERENCE 8).
 ghost use mathlib.Core.Path.{_≡_};
-ghost use Prim.Native.Nat.{_<_, _≤_};
+ghost use Prim.Native.Nat.{_+_, _*_, _<_, _≤_};
 ghost use lib.ListN.{length};
 ghost use Rattle.mrc_compiler.specs.Refusals.{reportOf};
 ghost use Rattle.show_file.specs.Refusals.{numberOf};
-ghost use Rattle.show_file.specs.Show.{u16At, hasMark, versions, countsIn, isCount, headed, opened, recordPlace, insnAt, firstUnknown, mostRecords};
+ghost use Rattle.show_file.specs.Show.{headerLength, u16At, header, hasMark, versions, countsIn, eachIn, recordBytes, isCount, headed, opened, recordPlace, insnAt, firstUnknown, mostRecords};
 use mrc_compiler::encoder::EncodeError;
 use mrc_compiler::encoder::InstructionData;
 
@@ -44,6 +44,7 @@ fn number_of(error: EncodeError) -> u8
         EncodeError::RelativeJumpOutOfRange(_, _, _, _) => 6,
         EncodeError::NotSupported(_) => 7,
         EncodeError::NotWellFormed(_) => 8,
+        EncodeError::InvalidRepeat(_) => 23,
         EncodeError::SliceTooShort(_) => 9,
     }
 }
@@ -86,7 +87,20 @@ fn counts_of(version: u16) -> Counts
     match version {
         1 => Counts::Between(0, 1000),
         2 => Counts::Between(1001, 8000),
+        3 => Counts::Between(0, 8000),
         _ => Counts::None,
+    }
+}
+
+// The bytes of a version's records.
+fn record_length(version: u16) -> usize
+    ensures { λ r. ⌜ r ≡ eachIn versions version ⌝ }
+    ensures small { λ r. ⌜ r ≤ 57 ⌝ }
+{
+    if version == 3 {
+        show_record::LONG_RECORD_LENGTH
+    } else {
+        show_record::RECORD_LENGTH
     }
 }
 
@@ -114,11 +128,20 @@ fn has_mark(file: &[u8]) -> bool
     show_record::byte_at(file, 2) == 0x51
 }
 
+fn u16_of(low: u8, high: u8) -> u16
+    ensures { λ r. ⌜ r ≡ low + 256 * high ⌝ }
+{
+    low as u16 + 256 * high as u16
+}
+
 fn u16_at(file: &[u8], at: usize) -> u16
     requires { ⌜ at ≤ 7 ⌝ }
     ensures { λ r. ⌜ r ≡ u16At (now (file .entry)) at ⌝ }
 {
-    show_record::byte_at(file, at) as u16 + 256 * show_record::byte_at(file, at + 1) as u16
+    u16_of(
+        show_record::byte_at(file, at),
+        show_record::byte_at(file, at + 1),
+    )
 }
 
 // The questions behind the mark.
@@ -136,7 +159,7 @@ fn header_of(file: &[u8], limit: u16) -> Opened
         Counts::None => Opened::Refused(LoadError::WrongVersion),
         Counts::Between(fewest, most) => {
             if is_count(limit, fewest, most, count) {
-                if file.len() != HEADER_LENGTH + show_record::RECORD_LENGTH * count as usize {
+                if file.len() != HEADER_LENGTH + record_length(version) * count as usize {
                     return Opened::Refused(LoadError::WrongLength);
                 }
                 Opened::Show(Header {
@@ -162,34 +185,52 @@ pub fn open(file: &[u8], limit: u16) -> Opened
     }
 }
 
-// Where record k begins.
-fn place_of(k: usize) -> usize
-    requires { ⌜ k ≤ mostRecords ⌝ }
-    ensures { λ r. ⌜ r ≡ recordPlace k ⌝ }
+// The bytes of a file's records.
+fn record_bytes(file: &[u8]) -> usize
+    requires { ⌜ headerLength ≤ length (now file) ⌝ }
+    ensures { λ r. ⌜ r ≡ recordBytes (now (file .entry)) ⌝ }
+    ensures small { λ r. ⌜ r ≤ 57 ⌝ }
 {
-    HEADER_LENGTH + show_record::RECORD_LENGTH * k
+    record_length(u16_of(file[3], file[4]))
+}
+
+// Where record k begins, of records of so many bytes.
+fn place_of(each: usize, k: usize) -> usize
+    requires { ⌜ (each ≤ 57) × (k ≤ mostRecords) ⌝ }
+    ensures { λ r. ⌜ r ≡ headerLength + each * k ⌝ }
+{
+    HEADER_LENGTH + each * k
+}
+
+// How many records the header counts.
+pub fn record_count(file: &[u8]) -> usize
+    ensures { λ r. ⌜ r ≡ header (now (file .entry)) .count ⌝ }
+{
+    u16_at(file, 7) as usize
 }
 
 // Record k of n.
 pub fn insn_at(file: &[u8], n: usize, k: usize) -> InstructionData
-    requires { ⌜ (length (now file) ≡ recordPlace n) × (n ≤ mostRecords) × (k < n) ⌝ }
+    requires { ⌜ (length (now file) ≡ recordPlace (now file) n) × (n ≤ mostRecords) × (k < n) ⌝ }
     ensures { λ r. ⌜ r ≡ insnAt (now (file .entry)) k ⌝ }
 {
-    let from = place_of(k);
-    let to = from + show_record::RECORD_LENGTH;
+    let each = record_bytes(file);
+    let from = place_of(each, k);
+    let to = from + each;
     let rec = &file[from..to];
     show_record::instruction_at(rec)
 }
 
 // The first record with a code that is not known, or n.
 pub fn first_unknown(file: &[u8], n: usize) -> usize
-    requires { ⌜ (length (now file) ≡ recordPlace n) × (n ≤ mostRecords) ⌝ }
+    requires { ⌜ (length (now file) ≡ recordPlace (now file) n) × (n ≤ mostRecords) ⌝ }
     ensures { λ r. ⌜ r ≡ firstUnknown (now (file .entry)) n ⌝ }
 {
+    let each = record_bytes(file);
     let mut k = 0;
     while k < n {
-        let from = place_of(k);
-        let to = from + show_record::RECORD_LENGTH;
+        let from = place_of(each, k);
+        let to = from + each;
         let rec = &file[from..to];
         let is_known = show_record::codes_known(rec);
         if is_known {

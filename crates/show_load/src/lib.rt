@@ -35,7 +35,7 @@ pub fn offset_behind(origin: u16, at: usize) -> u16
 
 // One step: record k of n, so many bytes behind the origin, as the run of its bytes or its refusal.
 pub fn run_at(file: &[u8], n: usize, origin: u16, k: usize, at: usize) -> Emitted
-    requires { ⌜ (length (now file) ≡ recordPlace n) × (n ≤ mostRecords) × (k < n) ⌝ }
+    requires { ⌜ (length (now file) ≡ recordPlace (now file) n) × (n ≤ mostRecords) × (k < n) ⌝ }
     ensures { λ r. ⌜ r ≡ emitted emptyRun (answerAt (now (file .entry)) origin k at) ⌝ }
 {
     let insn = insn_at(file, n, k);
@@ -45,7 +45,7 @@ pub fn run_at(file: &[u8], n: usize, origin: u16, k: usize, at: usize) -> Emitte
 
 // Each record in order: the header with the length of all, or the first that is refused.
 fn measure(file: &[u8], header: Header) -> Loaded
-    requires { ⌜ (length (now file) ≡ recordPlace (header .count)) × (header .count ≤ mostRecords) ⌝ }
+    requires { ⌜ (length (now file) ≡ recordPlace (now file) (header .count)) × (header .count ≤ mostRecords) ⌝ }
     ensures { λ r. ⌜ r ≡ measured header (walk (now (file .entry)) (header .origin) (header .count)) ⌝ }
 {
     let n = header.count as usize;
@@ -89,7 +89,7 @@ pub fn accept(file: &[u8], limit: u16) -> Loaded
 
 // The first record that ends behind so many bytes, or n.
 fn first_over(file: &[u8], n: usize, origin: u16, size: usize) -> usize
-    requires { ⌜ (length (now file) ≡ recordPlace n) × (n ≤ mostRecords) × (isAll (walk (now file) origin n) ≡ true) ⌝ }
+    requires { ⌜ (length (now file) ≡ recordPlace (now file) n) × (n ≤ mostRecords) × (isAll (walk (now file) origin n) ≡ true) ⌝ }
     ensures { λ r. ⌜ r ≡ firstOver (now (file .entry)) origin size n ⌝ }
 {
     let mut k = 0;
@@ -109,7 +109,7 @@ fn first_over(file: &[u8], n: usize, origin: u16, size: usize) -> usize
 
 // Writes record k, so many bytes behind the origin, to the front of out, and answers its length.
 fn write_record(file: &[u8], n: usize, origin: u16, k: usize, at: usize, out: &mut [u8]) -> usize
-    requires { ⌜ (length (now file) ≡ recordPlace n) × (n ≤ mostRecords) × (k < n) × (length (bytesOf (answerAt (now file) origin k at)) ≤ length (now out)) ⌝ }
+    requires { ⌜ (length (now file) ≡ recordPlace (now file) n) × (n ≤ mostRecords) × (k < n) × (length (bytesOf (answerAt (now file) origin k at)) ≤ length (now out)) ⌝ }
     ensures { λ r. ⌜ r ≡ length (bytesOf (answerAt (now (file .entry)) origin k at)) ⌝ }
     ensures { λ _. ⌜ now (out .exit) ≡ bytesOf (answerAt (now (file .entry)) origin k at) ++ drop (length (bytesOf (answerAt (now (file .entry)) origin k at))) (now (out .entry)) ⌝ }
 {
@@ -122,7 +122,7 @@ fn write_record(file: &[u8], n: usize, origin: u16, k: usize, at: usize, out: &m
 
 // Each record into the part of the image that starts where the last one ended.
 fn write_all(file: &[u8], n: usize, origin: u16, image: &mut [u8])
-    requires { ⌜ (length (now file) ≡ recordPlace n) × (n ≤ mostRecords) × (isAll (walk (now file) origin n) ≡ true) × (length (bytesIn (walk (now file) origin n)) ≤ length (now image)) ⌝ }
+    requires { ⌜ (length (now file) ≡ recordPlace (now file) n) × (n ≤ mostRecords) × (isAll (walk (now file) origin n) ≡ true) × (length (bytesIn (walk (now file) origin n)) ≤ length (now image)) ⌝ }
     ensures { λ _. ⌜ now (image .exit) ≡ bytesIn (walk (now (file .entry)) origin n) ++ drop (length (bytesIn (walk (now (file .entry)) origin n))) (now (image .entry)) ⌝ }
 {
     let mut k = 0;
@@ -137,7 +137,7 @@ fn write_all(file: &[u8], n: usize, origin: u16, image: &mut [u8])
 
 // 9, with the span of the record that does not fit.
 fn too_short(file: &[u8], n: usize, k: usize) -> Loaded
-    requires { ⌜ (length (now file) ≡ recordPlace n) × (n ≤ mostRecords) × (k < n) ⌝ }
+    requires { ⌜ (length (now file) ≡ recordPlace (now file) n) × (n ≤ mostRecords) × (k < n) ⌝ }
     ensures { λ r. ⌜ r ≡ tooShort (now (file .entry)) k ⌝ }
 {
     let insn = insn_at(file, n, k);

@@ -5,7 +5,7 @@ use mathlib.Core.Bool.{Bool, true, false}
 use mathlib.Core.List.{List, [], _∷_, _++_}
 use Prim.Native.Nat.{ℕ, _+_}
 use lib.IntN.{pos, negsuc}
-use lib.ListN.{length, set}
+use lib.ListN.{length, take, drop, set}
 use Rattle.mrc_compiler.specs.declared.ast.Span.{Span}
 use Rattle.mrc_compiler.specs.declared.ast.OptionDataSize.the-variants as OD
 use Rattle.mrc_compiler.specs.declared.ast.DataSize.the-variants as D
@@ -13,9 +13,9 @@ use Rattle.mrc_compiler.specs.declared.ast.OptionSegment.the-variants as OG
 use Rattle.mrc_compiler.specs.declared.ast.Segment.the-variants as G
 use Rattle.mrc_compiler.specs.declared.encoder.OperandSize.the-variants as S
 use Rattle.mrc_compiler.specs.declared.operations.Operation.the-variants as Op
-use Rattle.mrc_compiler.specs.Builders.{immediateOperand, registerOperand, indirectOperand, farOperand, oneOperand, twoOperands}
+use Rattle.mrc_compiler.specs.Builders.{immediateOperand, registerOperand, indirectOperand, farOperand, oneOperand, twoOperands, withRepeat}
 use Rattle.mrc_compiler.specs.Operations.{operations}
-use Rattle.show_record.specs.Record.{kindPlace, sizePlace, displacementSizePlace, jumpKindPlace, operationPlace, countPlace, firstPlace, secondPlace, recordLength, operandAt, instructionAt, operandKnown, codesKnown}
+use Rattle.show_record.specs.Record.{kindPlace, sizePlace, displacementSizePlace, jumpKindPlace, operationPlace, countPlace, firstPlace, secondPlace, recordLength, isRecord, operandAt, instructionAt, operandKnown, codesKnown}
 
 abbrev whole : Span
 whole = record { start = 1; end = 9 }
@@ -61,7 +61,18 @@ jmpBytes =
     ++ ((0 ∷ 0 ∷ 0 ∷ 0 ∷ 1 ∷ 0 ∷ 0 ∷ 0x34 ∷ 0x12 ∷ 0 ∷ 0 ∷ small 18 ++ oneBytes)
     ++ (0 ∷ 0 ∷ 0 ∷ 0 ∷ 0 ∷ 0 ∷ 0 ∷ small 0 ++ (small 0 ++ wholeBytes)))
 
+-- a record with a repeat: a byte behind the count (document 02, No. 11)
+abbrev withByte : ℕ → List ℕ → List ℕ
+withByte repeat s = take 2 s ++ (repeat ∷ drop 2 s)
+
 record Rows : Type 0 where
+  repeated-length : length (withByte 0xF3 movBytes) ≡ 57
+  repeated-mov : instructionAt (withByte 0xF3 movBytes) ≡ withRepeat 0xF3 (instructionAt movBytes)
+  repeated-add : instructionAt (withByte 0xF2 addBytes) ≡ withRepeat 0xF2 (instructionAt addBytes)
+  repeated-jmp : instructionAt (withByte 0 jmpBytes) ≡ instructionAt jmpBytes
+  repeated-99 : codesKnown (withByte 99 addBytes) ≡ true
+  repeated-unknown : codesKnown (withByte 0 (set addBytes secondPlace 4)) ≡ false
+  lengths : (isRecord 55 ≡ false) × (isRecord 56 ≡ true) × (isRecord 57 ≡ true) × (isRecord 58 ≡ false)
   mov-length : length movBytes ≡ recordLength
   record-length : _≡_ {A = ℕ} recordLength 56
   mov : instructionAt movBytes ≡ twoOperands whole Op.MOV (registerOperand one 0 S.Word) (immediateOperand two (pos 4660))
@@ -73,7 +84,23 @@ record Rows : Type 0 where
 
 rows : Rows
 unfolding operations operandAt instructionAt operandKnown codesKnown
-rows = record { mov-length = refl; record-length = refl; mov = refl; add = refl; jmp = refl; mov-known = refl; add-known = refl; jmp-known = refl }
+rows = record {
+  repeated-length = refl;
+  repeated-mov = refl;
+  repeated-add = refl;
+  repeated-jmp = refl;
+  repeated-99 = refl;
+  repeated-unknown = refl;
+  lengths = (refl, refl, refl, refl);
+  mov-length = refl;
+  record-length = refl;
+  mov = refl;
+  add = refl;
+  jmp = refl;
+  mov-known = refl;
+  add-known = refl;
+  jmp-known = refl;
+}
 
 -- MOV AX,4660 with another byte at a place
 abbrev knownWith : ℕ → ℕ → Bool

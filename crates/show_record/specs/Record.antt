@@ -1,9 +1,9 @@
--- A record of a show file: 56 bytes, little-endian (REFERENCE 8). Bytes past the end count as 0.
+-- A record of a show file: 56 bytes, or 57 with a repeat behind the operand count; little-endian (REFERENCE 8). Bytes past the end count as 0.
 -- Definitions only.
 use Prim.Native.Nat.{ℕ, _+_, _*_}
 use mathlib.Core.Bool.{Bool}
 use mathlib.Core.List.{List, [], _∷_}
-use lib.Dec.{ltb}
+use lib.Dec.{eqb, ltb}
 use lib.IntN.{ℤ}
 use lib.ListN.{length, getD}
 use Rattle.mrc_compiler.specs.declared.ast.Span.{Span}
@@ -17,9 +17,9 @@ use Rattle.mrc_compiler.specs.declared.encoder.JumpKind.{JumpKind}
 use Rattle.mrc_compiler.specs.declared.encoder.JumpKind.the-variants as J
 use Rattle.mrc_compiler.specs.declared.encoder.OperandData.{OperandData}
 use Rattle.mrc_compiler.specs.declared.encoder.InstructionData.{InstructionData}
-use Rattle.mrc_compiler.specs.Choose.{both}
+use Rattle.mrc_compiler.specs.Choose.{pick, both}
 use Rattle.mrc_compiler.specs.Operations.{operations}
-use Rattle.mrc_compiler.specs.Builders.{instruction}
+use Rattle.mrc_compiler.specs.Builders.{instruction, withRepeat}
 use Rattle.base_values.specs.Distances.{asI32}
 
 -- ---- codes: numbers from 0 in document 01's order; those of operations are their numbers
@@ -82,8 +82,24 @@ firstPlace = 10
 abbrev pub secondPlace : ℕ
 secondPlace = firstPlace + operandLength
 
+-- without a repeat
 abbrev pub recordLength : ℕ
 recordLength = secondPlace + operandLength
+
+-- a repeat stands behind the count, and moves the fields behind it by a byte
+abbrev pub repeatPlace : ℕ
+repeatPlace = 2
+
+abbrev pub repeatLength : ℕ
+repeatLength = 1
+
+-- how many bytes of repeat a record of this length has
+abbrev pub repeatIn : ℕ → ℕ
+repeatIn n = pick (eqb n (recordLength + repeatLength)) repeatLength 0
+
+-- the lengths that a record has
+abbrev pub isRecord : ℕ → Bool
+isRecord n = eqb n (recordLength + repeatIn n)
 
 -- ---- what stands at a place
 abbrev pub byteAt : List ℕ → ℕ → ℕ
@@ -132,9 +148,11 @@ operandAt s i = record {
 -- an unknown code counts as the code 0
 unfoldable pub instructionAt : List ℕ → InstructionData
 instructionAt s =
-    instruction (spanAt s spanPlace) (operationAt s operationPlace) (byteAt s countPlace) (operandAt s firstPlace) (operandAt s secondPlace)
+    let d = repeatIn (length s) in
+    withRepeat (pick (eqb d 0) 0 (byteAt s repeatPlace))
+    (instruction (spanAt s (spanPlace + d)) (operationAt s operationPlace) (byteAt s countPlace) (operandAt s (firstPlace + d)) (operandAt s (secondPlace + d)))
 
--- ---- question 15: are all codes known? The operand count, prefix, mode and r/m are numbers, asked by question 1
+-- ---- question 15: are all codes known? The operand count, repeat, prefix, mode and r/m are numbers, asked by question 1
 abbrev pub known : {A : Type 0} → List A → ℕ → Bool
 known codes n = ltb n (length codes)
 
@@ -145,4 +163,6 @@ operandKnown s i =
     (both (known sizes (byteAt s (i + displacementSizePlace))) (known jumpKinds (byteAt s (i + jumpKindPlace)))))
 
 unfoldable pub codesKnown : List ℕ → Bool
-codesKnown s = both (known operations (byteAt s operationPlace)) (both (operandKnown s firstPlace) (operandKnown s secondPlace))
+codesKnown s =
+    let d = repeatIn (length s) in
+    both (known operations (byteAt s operationPlace)) (both (operandKnown s (firstPlace + d)) (operandKnown s (secondPlace + d)))

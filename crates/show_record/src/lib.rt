@@ -1,14 +1,17 @@
 // A record of a show file becomes an instruction (REFERENCE 8).
 ghost use mathlib.Core.Path.{_≡_};
 ghost use Prim.Native.Nat.{_+_, _≤_};
+ghost use mathlib.Core.Bool.{true};
+ghost use lib.Dec.{eqb};
 ghost use lib.ListN.{length, getD};
 ghost use Rattle.mrc_compiler.specs.declared.operations.Operation.the-variants as Op;
 ghost use Rattle.mrc_compiler.specs.declared.encoder.OperandKind.the-variants as K;
 ghost use Rattle.mrc_compiler.specs.declared.encoder.OperandSize.the-variants as S;
 ghost use Rattle.mrc_compiler.specs.declared.encoder.JumpKind.the-variants as J;
+ghost use Rattle.mrc_compiler.specs.Choose.{pick};
 ghost use Rattle.mrc_compiler.specs.Operations.{operations};
 ghost use Rattle.base_values.specs.Distances.{asI32};
-ghost use Rattle.show_record.specs.Record.{kinds, sizes, jumpKinds, operandLength, recordLength, byteAt, u32Of, u32At, i32At, spanAt, operandAt, instructionAt, operandKnown, codesKnown};
+ghost use Rattle.show_record.specs.Record.{kinds, sizes, jumpKinds, operandLength, repeatIn, isRecord, byteAt, u32Of, u32At, i32At, spanAt, operandAt, instructionAt, operandKnown, codesKnown};
 use mrc_compiler::ast::Span;
 use mrc_compiler::encoder::InstructionData;
 use mrc_compiler::encoder::JumpKind;
@@ -53,6 +56,11 @@ const FIRST: usize = 10;
 const SECOND: usize = FIRST + OPERAND_LENGTH;
 
 pub const RECORD_LENGTH: usize = SECOND + OPERAND_LENGTH;
+
+// A record with a repeat has it behind the count, and the other fields a byte further.
+const REPEAT: usize = 2;
+
+pub const LONG_RECORD_LENGTH: usize = RECORD_LENGTH + 1;
 
 // The byte at a place, 0 past the end.
 pub fn byte_at(bytes: &[u8], at: usize) -> u8
@@ -173,18 +181,43 @@ fn operand_at(bytes: &[u8], at: usize) -> OperandData
     }
 }
 
+// How many bytes of repeat a record of this length has.
+fn repeat_in(length: usize) -> usize
+    ensures { λ r. ⌜ r ≡ repeatIn length ⌝ }
+    ensures small { λ r. ⌜ r ≤ 1 ⌝ }
+{
+    if length == LONG_RECORD_LENGTH { 1 } else { 0 }
+}
+
+// Is this a record's length?
+pub fn is_record(length: usize) -> bool
+    ensures { λ r. ⌜ r ≡ isRecord length ⌝ }
+{
+    length == RECORD_LENGTH + repeat_in(length)
+}
+
+// The repeat of a record that has so many bytes of it, one or none. A branch would cost every record more than the product.
+fn repeat_of(byte: u8, d: usize) -> u8
+    requires { ⌜ d ≤ 1 ⌝ }
+    ensures { λ r. ⌜ r ≡ pick (eqb d 0) 0 byte ⌝ }
+{
+    byte * d as u8
+}
+
 // The instruction of a record whose codes are known. An enum that says whether they are cannot hold the operands' array: `codes_known` says it.
 pub fn instruction_at(bytes: &[u8]) -> InstructionData
-    requires { ⌜ length (now bytes) ≡ recordLength ⌝ }
+    requires { ⌜ isRecord (length (now bytes)) ≡ true ⌝ }
     ensures { λ r. ⌜ r ≡ instructionAt (now (bytes .entry)) ⌝ }
 {
-    let first = operand_at(bytes, FIRST);
-    let second = operand_at(bytes, SECOND);
+    let d = repeat_in(bytes.len());
+    let first = operand_at(bytes, FIRST + d);
+    let second = operand_at(bytes, SECOND + d);
     InstructionData {
         operation: operation_of(bytes[OPERATION]),
         num_opers: bytes[COUNT],
+        repeat: repeat_of(bytes[REPEAT], d),
         opers: [first, second],
-        opers_span: span_at(bytes, SPAN),
+        opers_span: span_at(bytes, SPAN + d),
     }
 }
 
@@ -207,14 +240,15 @@ fn operand_known(bytes: &[u8], at: usize) -> bool
 
 // Are all codes of a record known, those of an operand that is not used too? No: refusal 15.
 pub fn codes_known(bytes: &[u8]) -> bool
-    requires { ⌜ length (now bytes) ≡ recordLength ⌝ }
+    requires { ⌜ isRecord (length (now bytes)) ≡ true ⌝ }
     ensures { λ r. ⌜ r ≡ codesKnown (now (bytes .entry)) ⌝ }
 {
+    let d = repeat_in(bytes.len());
     if 99 <= bytes[OPERATION] {
         return false;
     }
-    if operand_known(bytes, FIRST) {
-        operand_known(bytes, SECOND)
+    if operand_known(bytes, FIRST + d) {
+        operand_known(bytes, SECOND + d)
     } else {
         false
     }

@@ -3,7 +3,8 @@
 use mathlib.Core.Path.{_≡_, refl, sym, _∙_}
 use mathlib.Core.Bool.{Bool, true, false}
 use mathlib.Core.List.{List, [], append-nil}
-use Prim.Native.Nat.{ℕ, _+_, _<_}
+use Prim.Native.Nat.{ℕ, _+_, _*_, _<_}
+use native.Mathlib.Nat.{mul-le-mul}
 use native.Mathlib.Omega.{arith}
 use lib.Dec.{eqb, leb}
 use lib.ListN.{length, take}
@@ -16,11 +17,12 @@ use Rattle.show_file.specs.declared.LoadError.{LoadError}
 use Rattle.show_file.specs.declared.LoadError.the-variants as E
 use Rattle.show_file.specs.declared.Opened.the-variants as O
 use Rattle.show_file.specs.Show.{headerLength, versionPlace, versions, countsIn, hasMark, u16At, header, recordPlace, isCount, counted, headed, opened}
+use Rattle.show_file.proofs.Laws.{most-bytes}
 use Rattle.show_text.specs.Text.{refusedLine, textRecords, refusedGround, text}
 
--- the longest show file that is printed
+-- no show file that is printed is longer
 abbrev longest : ℕ
-longest = recordPlace textRecords
+longest = headerLength + 57 * textRecords
 
 -- why a longer one is refused
 abbrev whyCounted : Counts → LoadError
@@ -35,10 +37,10 @@ unfolding opened headed isCount
 opened-long s l = rw (le-leb headerLength (length s) (omega arith)) (go (hasMark s) (countsIn versions (u16At s versionPlace)))
   where
     -- a count within the limit is that of a shorter file
-    not-exact : (a b c : Bool) → leb (header s .count) textRecords ≡ c → both (both a (both b c)) (eqb (length s) (recordPlace (header s .count))) ≡ false
+    not-exact : (a b c : Bool) → leb (header s .count) textRecords ≡ c → both (both a (both b c)) (eqb (length s) (recordPlace s (header s .count))) ≡ false
     not-exact true true true h =
         let few = leb-true (header s .count) textRecords h in
-        ne-eqb (length s) (recordPlace (header s .count)) (λ e. omega arith)
+        ne-eqb (length s) (recordPlace s (header s .count)) (λ e. omega (arith, mul-le-mul (most-bytes s) few))
     not-exact true true false h = refl
     not-exact true false c h = refl
     not-exact false b c h = refl

@@ -12,7 +12,7 @@ use borrow.Rule.Slice.PartMut.{putMid}
 use Rattle.mrc_compiler.specs.Choose.{pick, both}
 use Rattle.mrc_compiler.specs.Refusals.{reportOf}
 use Rattle.encode_spec.specs.Answer.{Answer, bytes, refused}
-use Rattle.encode_spec.proofs.Outcomes.{numberIn, answer-below}
+use Rattle.encode_spec.proofs.Outcomes.{numberIn, answer-not-nine}
 use Rattle.show_file.specs.declared.Header.{Header}
 use Rattle.show_file.specs.declared.LoadError.{LoadError}
 use Rattle.show_file.specs.declared.LoadError.the-variants as E
@@ -117,25 +117,25 @@ abbrev numberOn : Walk → ℕ
 numberOn (all bs) = 0
 numberOn (stopped k e) = reportOf e .number
 
-followed-below : (k : ℕ) (bs : List ℕ) (a : Answer) → numberIn a ≤ 8 → numberOn (followed k bs a) ≤ 8
-followed-below k bs (bytes cs) h = omega arith
-followed-below k bs (refused e) h = h
+followed-not : (k : ℕ) (bs : List ℕ) (a : Answer) → (numberIn a ≡ 9 → ⊥) → numberOn (followed k bs a) ≡ 9 → ⊥
+followed-not k bs (bytes cs) h = λ q. omega arith
+followed-not k bs (refused e) h = h
 
-further-below : (file : List ℕ) (origin k : ℕ) (w : Walk) → numberOn w ≤ 8 → numberOn (further file origin k w) ≤ 8
-further-below file origin k (all bs) h = followed-below k bs (answerAt file origin k (length bs)) (answer-below (insnAt file k) (offsetBehind origin (length bs)))
-further-below file origin k (stopped i e) h = h
+further-not : (file : List ℕ) (origin k : ℕ) (w : Walk) → (numberOn w ≡ 9 → ⊥) → numberOn (further file origin k w) ≡ 9 → ⊥
+further-not file origin k (all bs) h = followed-not k bs (answerAt file origin k (length bs)) (answer-not-nine (insnAt file k) (offsetBehind origin (length bs)))
+further-not file origin k (stopped i e) h = h
 
-walk-below : (file : List ℕ) (origin n : ℕ) → numberOn (walk file origin n) ≤ 8
+walk-not : (file : List ℕ) (origin n : ℕ) → numberOn (walk file origin n) ≡ 9 → ⊥
 unfolding walk
-walk-below file origin zero = omega arith
-walk-below file origin (suc n) = further-below file origin n (walk file origin n) (walk-below file origin n)
+walk-not file origin zero = λ q. omega arith
+walk-not file origin (suc n) = further-not file origin n (walk file origin n) (walk-not file origin n)
 
 abbrev NotNine : Loaded → Type 0
 NotNine (L.Image h n) = Unit {0}
 NotNine (L.Refused e) = numberOf e ≡ 9 → ⊥
 
-measured-not : (h : Header) (w : Walk) → numberOn w ≤ 8 → NotNine (measured h w)
-measured-not h (stopped k e) b = λ q. omega arith
+measured-not : (h : Header) (w : Walk) → (numberOn w ≡ 9 → ⊥) → NotNine (measured h w)
+measured-not h (stopped k e) b = b
 measured-not h (all bs) b = tt
 
 show-not : (file : List ℕ) (h : Header) → NotNine (showAccepted file h)
@@ -144,7 +144,7 @@ show-not file h = go (ltb (firstUnknown file (h .count)) (h .count))
   where
     go : (b : Bool) → NotNine (pick b (L.Refused (E.UnknownCode (firstUnknown file (h .count)))) (measured h (walk file (h .origin) (h .count))))
     go true = λ q. omega arith
-    go false = measured-not h (walk file (h .origin) (h .count)) (walk-below file (h .origin) (h .count))
+    go false = measured-not h (walk file (h .origin) (h .count)) (walk-not file (h .origin) (h .count))
 
 -- a file that does not open is refused with 12, 13 or 14
 accepted-not : (file : List ℕ) → NotNine (taken file)

@@ -111,7 +111,7 @@ fn refused_line(error: LoadError) -> Line
 // ---- grounds
 // The form of record k, which is accepted with the bytes of run, behind its line.
 fn push_form_at(line: Line, file: &[u8], n: usize, k: usize, run: ByteRun, forms: bool) -> Line
-    requires { ⌜ (length (now file) ≡ recordPlace n) × (n ≤ mostRecords) × (k < n) ⌝ }
+    requires { ⌜ (length (now file) ≡ recordPlace (now file) n) × (n ≤ mostRecords) × (k < n) ⌝ }
     ensures { λ r. ⌜ r ≡ appended line (pick forms (formAt (now (file .entry)) k (run .bytes)) []) ⌝ }
 {
     if forms {
@@ -125,7 +125,7 @@ fn push_form_at(line: Line, file: &[u8], n: usize, k: usize, run: ByteRun, forms
 
 // The question that refused record k.
 fn push_question_at(line: Line, file: &[u8], n: usize, k: usize, error: EncodeError) -> Line
-    requires { ⌜ (length (now file) ≡ recordPlace n) × (n ≤ mostRecords) × (k < n) ⌝ }
+    requires { ⌜ (length (now file) ≡ recordPlace (now file) n) × (n ≤ mostRecords) × (k < n) ⌝ }
     ensures { λ r. ⌜ r ≡ appended line (questionLine (questionBy error (insnAt (now (file .entry)) k))) ⌝ }
 {
     let insn = insn_at(file, n, k);
@@ -133,7 +133,7 @@ fn push_question_at(line: Line, file: &[u8], n: usize, k: usize, error: EncodeEr
     text_form::push_question(line, number)
 }
 
-// The question behind the line of a refusal. A file that is asked about its records has so many as its length holds.
+// The question behind the line of a refusal. A file that is asked about its records has so many as its header counts.
 fn push_question_of(line: Line, file: &[u8], error: LoadError, forms: bool) -> Line
     requires { ⌜ accepted textRecords (now file) ≡ Refused error ⌝ }
     ensures { λ r. ⌜ r ≡ appended line (pick forms (questionOf (now (file .entry)) error) []) ⌝ }
@@ -145,7 +145,7 @@ fn push_question_of(line: Line, file: &[u8], error: LoadError, forms: bool) -> L
             LoadError::WrongLength => line,
             LoadError::UnknownCode(_) => line,
             LoadError::Record(k, e) => {
-                let n = (file.len() - 9) / 56;
+                let n = show_file::record_count(file);
                 push_question_at(line, file, n, k, e)
             }
         }
@@ -157,7 +157,7 @@ fn push_question_of(line: Line, file: &[u8], error: LoadError, forms: bool) -> L
 // ---- the text
 // The text of each record, into the part of out that starts where the last one ended.
 fn write_lines(file: &[u8], n: usize, origin: u16, forms: bool, out: &mut [u8]) -> usize
-    requires { ⌜ (length (now file) ≡ recordPlace n) × (n ≤ mostRecords) × (isAll (walk (now file) origin n) ≡ true) × (mostRecord forms * n ≤ length (now out)) ⌝ }
+    requires { ⌜ (length (now file) ≡ recordPlace (now file) n) × (n ≤ mostRecords) × (isAll (walk (now file) origin n) ≡ true) × (mostRecord forms * n ≤ length (now out)) ⌝ }
     ensures { λ r. ⌜ r ≡ length (linesOf forms (now (file .entry)) origin n) ⌝ }
     ensures { λ _. ⌜ now (out .exit) ≡ linesOf forms (now (file .entry)) origin n ++ drop (length (linesOf forms (now (file .entry)) origin n)) (now (out .entry)) ⌝ }
 {
@@ -182,7 +182,7 @@ fn write_lines(file: &[u8], n: usize, origin: u16, forms: bool, out: &mut [u8]) 
 
 // The first line, and the texts of the records behind it.
 fn write_show(file: &[u8], header: Header, forms: bool, out: &mut [u8]) -> usize
-    requires { ⌜ (length (now file) ≡ recordPlace (header .count)) × (header .count ≤ textRecords) × (isAll (walk (now file) (header .origin) (header .count)) ≡ true) × (mostText forms ≤ length (now out)) ⌝ }
+    requires { ⌜ (length (now file) ≡ recordPlace (now file) (header .count)) × (header .count ≤ textRecords) × (isAll (walk (now file) (header .origin) (header .count)) ≡ true) × (mostText forms ≤ length (now out)) ⌝ }
     ensures { λ r. ⌜ r ≡ length (showText forms (now (file .entry)) header) ⌝ }
     ensures { λ _. ⌜ now (out .exit) ≡ showText forms (now (file .entry)) header ++ drop (length (showText forms (now (file .entry)) header)) (now (out .entry)) ⌝ }
 {

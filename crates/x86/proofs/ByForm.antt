@@ -13,7 +13,7 @@ use Rattle.x86.specs.declared.Instruction.{Instruction}
 use Rattle.x86.specs.declared.Read.{Read}
 use Rattle.x86.specs.declared.Read.the-variants.{Whole, Nothing, More}
 use Rattle.x86.specs.Forms.{Form, forms}
-use Rattle.x86.specs.Reading.{hasOpcode, fits, some, startingWith, fitting, hasSecond, headLength, tailLength, namesMemory, mayNameMemory, instructionOf, readForm, readFirst, readSecond, readOpcode, prefix, reads}
+use Rattle.x86.specs.Reading.{hasOpcode, fits, some, startingWith, fitting, hasSecond, headLength, tailLength, namesMemory, mayNameMemory, instructionOf, readForm, readFirst, readSecond, readOpcode, prefix, readPlain}
 use Rattle.x86.proofs.Tests.{kept, some-false}
 
 -- the answers differ
@@ -87,6 +87,14 @@ form-length off p c x t f e =
     let (l, w) = pick-whole (leb (tailLength f x) (length t)) (Whole (instructionOf off p f c x t) (headLength p f + tailLength f x)) More more-not-whole a in
     (cc, leb-true (tailLength f x) (length t) l)
 
+-- and gives its instruction
+pub form-reads : (off p c x : ℕ) (t : List ℕ) (f : Form) {m : Instruction} {n : ℕ} → readForm off p c x t f ≡ Whole m n → m ≡ instructionOf off p f c x t
+unfolding readForm
+form-reads off p c x t f e =
+    let a = pick-whole (either (eqb p 0) (namesMemory f x)) _ Nothing nothing-not-whole e .1 in
+    let (l, w) = pick-whole (leb (tailLength f x) (length t)) (Whole (instructionOf off p f c x t) (headLength p f + tailLength f x)) More more-not-whole a in
+    cc
+
 -- a prefix is at most one byte
 pub prefix-length : (p : ℕ) → pick (eqb p 0) 0 1 ≤ 1
 prefix-length p = go (eqb p 0)
@@ -96,10 +104,10 @@ prefix-length p = go (eqb p 0)
     go false = omega arith
 
 -- an instruction is not longer than the bytes
-pub not-longer : (off : ℕ) (s : List ℕ) (m : Instruction) (n : ℕ) → reads off s ≡ Whole m n → n ≤ length s
-unfolding reads
-not-longer off [] m n e = absurd (more-not-whole e)
-not-longer off (b ∷ s) m n e = go (prefix b) e
+pub plain-not-longer : (off : ℕ) (s : List ℕ) (m : Instruction) (n : ℕ) → readPlain off s ≡ Whole m n → n ≤ length s
+unfolding readPlain
+plain-not-longer off [] m n e = absurd (more-not-whole e)
+plain-not-longer off (b ∷ s) m n e = go (prefix b) e
   where
     go : (q : Bool) → pick q (readOpcode off b s) (readOpcode off 0 (b ∷ s)) ≡ Whole m n → n ≤ length (b ∷ s)
     go true e =

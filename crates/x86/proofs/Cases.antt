@@ -7,13 +7,13 @@ use native.Mathlib.Omega.{arith}
 use Rattle.mrc_compiler.specs.declared.ast.Segment.the-variants as G
 use Rattle.mrc_compiler.specs.declared.encoder.OperandSize.the-variants as S
 use Rattle.mrc_compiler.specs.declared.operations.Operation.the-variants as Op
-use Rattle.mrc_compiler.specs.Operations.{numberOf}
+use Rattle.mrc_compiler.specs.Operations.{numberOf, isString}
 use Rattle.x86.specs.declared.Operand.the-variants as O
 use Rattle.x86.specs.declared.Instruction.{Instruction}
 use Rattle.x86.specs.declared.Read.the-variants.{Whole, Nothing, More}
-use Rattle.x86.specs.Instructions.{instruction, canonical}
+use Rattle.x86.specs.Instructions.{instruction, canonical, repeated}
 use Rattle.x86.specs.Forms.{forms}
-use Rattle.x86.specs.Reading.{reads, readForm, startingWith, prefix}
+use Rattle.x86.specs.Reading.{readForm, startingWith, prefix, readPlain, isRepeat, repeats, reads}
 use Rattle.x86.specs.Listing.{ReadsAs}
 
 -- each row at every offset, but where it gives one
@@ -59,6 +59,22 @@ pub record Readings (off : ℕ) : Type 0 where
   pub xlat-cs : reads off (0x2E ∷ 0xD7 ∷ []) ≡ Whole (instruction Op.XLATB S.Byte (O.Memory 7 0 G.CS) O.None) 2
   pub prefix-alone : reads off (0xF3 ∷ []) ≡ Whole (instruction Op.REP S.Unspecified O.None O.None) 1  -- LOCK, REP and REPNE are instructions by themselves
   pub behind : reads off (0x90 ∷ 0x82 ∷ 0xFF ∷ []) ≡ Whole (instruction Op.NOP S.Unspecified O.None O.None) 1  -- what stands behind is not looked at
+  -- document 02, No. 11: F2 or F3 belongs to a string operation behind it, and else is an instruction of its own
+  pub rep-movsb : reads off (0xF3 ∷ 0xA4 ∷ []) ≡ Whole (repeated 0xF3 (instruction Op.MOVSB S.Unspecified O.None O.None)) 2
+  pub repne-movsb : reads off (0xF2 ∷ 0xA4 ∷ []) ≡ Whole (repeated 0xF2 (instruction Op.MOVSB S.Unspecified O.None O.None)) 2
+  pub repne-scasb : reads off (0xF2 ∷ 0xAE ∷ []) ≡ Whole (repeated 0xF2 (instruction Op.SCASB S.Unspecified O.None O.None)) 2
+  pub rep-stosw : reads off (0xF3 ∷ 0xAB ∷ []) ≡ Whole (repeated 0xF3 (instruction Op.STOSW S.Unspecified O.None O.None)) 2
+  pub rep-movsb-behind : reads off (0xF3 ∷ 0xA4 ∷ 0xA4 ∷ []) ≡ Whole (repeated 0xF3 (instruction Op.MOVSB S.Unspecified O.None O.None)) 2
+  pub movsb : reads off (0xA4 ∷ []) ≡ Whole (instruction Op.MOVSB S.Unspecified O.None O.None) 1
+  pub repne-alone : reads off (0xF2 ∷ []) ≡ Whole (instruction Op.REPNE S.Unspecified O.None O.None) 1
+  pub rep-rep : reads off (0xF3 ∷ 0xF3 ∷ 0xA4 ∷ []) ≡ Whole (instruction Op.REP S.Unspecified O.None O.None) 1
+  pub rep-prefix : reads off (0xF3 ∷ 0x26 ∷ 0xA4 ∷ []) ≡ Whole (instruction Op.REP S.Unspecified O.None O.None) 1
+  pub rep-nop : reads off (0xF3 ∷ 0x90 ∷ []) ≡ Whole (instruction Op.REP S.Unspecified O.None O.None) 1
+  pub rep-unread : reads off (0xF3 ∷ 0x82 ∷ []) ≡ Whole (instruction Op.REP S.Unspecified O.None O.None) 1
+  pub rep-test : reads off (0xF3 ∷ 0xA8 ∷ 0x05 ∷ []) ≡ Whole (instruction Op.REP S.Unspecified O.None O.None) 1
+  pub lock-movsb : reads off (0xF0 ∷ 0xA4 ∷ []) ≡ Whole (instruction Op.LOCK S.Unspecified O.None O.None) 1
+  pub prefix-rep : reads off (0x26 ∷ 0xF3 ∷ 0xA4 ∷ []) ≡ Nothing
+  pub prefix-movsb : reads off (0x26 ∷ 0xA4 ∷ []) ≡ Nothing
   -- refusal 10
   pub opcode-82 : reads off (0x82 ∷ []) ≡ Nothing
   pub shift-6 : reads off (0xD0 ∷ 0xF0 ∷ []) ≡ Nothing
@@ -109,7 +125,7 @@ pub record Readings (off : ℕ) : Type 0 where
 
 -- each row is computed
 pub readings : (off : ℕ) → Readings off
-unfolding reads readForm startingWith prefix forms canonical numberOf
+unfolding reads readPlain repeats isRepeat readForm startingWith prefix forms canonical isString numberOf
 readings off =
     record {
       no-bytes = refl;
@@ -150,6 +166,21 @@ readings off =
       xlat-cs = refl;
       prefix-alone = refl;
       behind = refl;
+      rep-movsb = refl;
+      repne-movsb = refl;
+      repne-scasb = refl;
+      rep-stosw = refl;
+      rep-movsb-behind = refl;
+      movsb = refl;
+      repne-alone = refl;
+      rep-rep = refl;
+      rep-prefix = refl;
+      rep-nop = refl;
+      rep-unread = refl;
+      rep-test = refl;
+      lock-movsb = refl;
+      prefix-rep = refl;
+      prefix-movsb = refl;
       opcode-82 = refl;
       shift-6 = refl;
       f6-1 = refl;
@@ -207,6 +238,7 @@ Unequal off s off′ t = (m : Instruction) × (n : Instruction) × ReadsAs off m
 
 -- equal instructions are equal part by part
 record Parts (m n : Instruction) : Type 0 where
+  repeat : m .repeat ≡ n .repeat
   operation : m .operation ≡ n .operation
   width : m .width ≡ n .width
   first : m .first ≡ n .first
@@ -215,6 +247,7 @@ record Parts (m n : Instruction) : Type 0 where
 parts : {m n : Instruction} → m ≡ n → Parts m n
 parts e =
     record {
+      repeat = ap (λ (i : Instruction). i .repeat) e;
       operation = ap (λ (i : Instruction). i .operation) e;
       width = ap (λ (i : Instruction). i .width) e;
       first = ap (λ (i : Instruction). i .first) e;
@@ -223,6 +256,9 @@ parts e =
 
 -- a row a pair
 pub record Same (off : ℕ) : Type 0 where
+  -- the repeat, as it is written
+  pub other-repeat : Unequal off (0xF2 ∷ 0xA4 ∷ []) off (0xF3 ∷ 0xA4 ∷ [])
+  pub no-repeat : Unequal off (0xF3 ∷ 0xA4 ∷ []) off (0xA4 ∷ [])
   -- operation
   pub operation : Equal off (0x03 ∷ 0xC3 ∷ []) off (0x01 ∷ 0xD8 ∷ [])
   pub other-operation : Unequal off (0x03 ∷ 0xC3 ∷ []) off (0x2B ∷ 0xC3 ∷ [])
@@ -297,9 +333,23 @@ pub record Same (off : ℕ) : Type 0 where
 
 -- each reading is computed; two that differ, differ in a part
 pub same : (off : ℕ) → Same off
-unfolding reads readForm startingWith prefix forms canonical numberOf
+unfolding reads readPlain repeats isRepeat readForm startingWith prefix forms canonical isString numberOf
 same off =
     record {
+      other-repeat = (
+        repeated 0xF2 (instruction Op.MOVSB S.Unspecified O.None O.None),
+        repeated 0xF3 (instruction Op.MOVSB S.Unspecified O.None O.None),
+        refl,
+        refl,
+        λ e. let p = parts e in let z : _≡_ {A = ℕ} 0xF2 0xF3 = cc in omega arith,
+      );
+      no-repeat = (
+        repeated 0xF3 (instruction Op.MOVSB S.Unspecified O.None O.None),
+        instruction Op.MOVSB S.Unspecified O.None O.None,
+        refl,
+        refl,
+        λ e. let p = parts e in let z : _≡_ {A = ℕ} 0xF3 0 = cc in omega arith,
+      );
       operation = (instruction Op.ADD S.Word (O.Register 0) (O.Register 3), refl, refl);
       other-operation = (
         instruction Op.ADD S.Word (O.Register 0) (O.Register 3),

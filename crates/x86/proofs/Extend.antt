@@ -5,7 +5,7 @@ use mathlib.Core.Path.{_≡_, refl, sym, _∙_}
 use Prim.Native.Nat.{ℕ, zero, suc, _+_, _*_, _≤_, _<_}
 use native.Mathlib.Omega.{arith}
 use mathlib.Core.Bool.{Bool, true, false}
-use mathlib.Core.List.{List, [], _∷_, _++_, List·Memᴰ, List·Memᴰ·head}
+use mathlib.Core.List.{List, [], _∷_, _++_, append-nil, List·Memᴰ, List·Memᴰ·head}
 use lib.Dec.{T, eqb, ltb, leb, ltb→lt, eqb·suc-zero}
 use lib.ListN.{length, getD, drop, replicate, length-append, length-replicate, List·getD-append}
 use lib.Seq.{getD-drop}
@@ -21,10 +21,11 @@ use Rattle.x86.specs.declared.Read.the-variants.{Whole, Nothing, More}
 use Rattle.x86.specs.Instructions.{instruction, canonical}
 use Rattle.x86.specs.Forms.{Slot, rm, rm-near, mem, mem-far, reg, sreg, sreg-not-cs, acc, low3, bits34, bits34-not-cs, CL, DX, one, moffs, xlat, ib, iw, ib-sx, cb, cw, ptr, nil, Extension, Form, form, forms}
 use Rattle.x86.specs.Forms as F
-use Rattle.x86.specs.Reading.{mode, low, displacementLength, about, fits, some, startingWith, fitting, addressLength, hasSecond, headLength, memoryLength, tailLength, namesMemory, mayNameMemory, displacementAt, rmAt, at, instructionOf, readForm, readFirst, readSecond, readOpcode, prefix, reads}
+use Rattle.x86.specs.Reading.{mode, low, displacementLength, about, fits, some, startingWith, fitting, addressLength, hasSecond, headLength, memoryLength, tailLength, namesMemory, mayNameMemory, displacementAt, rmAt, at, instructionOf, readForm, readFirst, readSecond, readOpcode, prefix, readPlain, isRepeat, repeats, behindRepeat, reads}
 use Rattle.x86.specs.Listing.{Bytes}
 use Rattle.x86.proofs.Tests.{both-parts, same, same-is, is-true, eachOf, each-at}
-use Rattle.x86.proofs.ByForm.{more-not-whole, nothing-not-whole, nothing-not-more, in-forms, not-longer}
+use Rattle.x86.proofs.ByForm.{more-not-whole, nothing-not-whole, nothing-not-more, in-forms}
+use Rattle.x86.proofs.Repeats.{bare, alone, plain, HowRead, with-repeat, without, how-read, not-longer}
 use Rattle.x86.proofs.Unambiguous.{memory-agrees}
 
 -- ---- an operand looks only at the bytes that its slot takes
@@ -130,11 +131,34 @@ opcode-stays off p (c ∷ t) u =
     (stays-pick (some (λ f. hasSecond (f .extension)) fs) (second-stays off p c fs t u) (first-stays off p c 0 t u fs))
     (unchanged Nothing)
 
--- adding bytes changes neither answer
-pub stays : (off : ℕ) (s u : List ℕ) → Stays (reads off s) (reads off (s ++ u))
+plain-stays : (off : ℕ) (s u : List ℕ) → Stays (readPlain off s) (readPlain off (s ++ u))
+unfolding readPlain
+plain-stays off [] u = open-end _
+plain-stays off (b ∷ s) u = stays-pick (prefix b) (opcode-stays off b s u) (opcode-stays off 0 (b ∷ s) u)
+
+-- F2 or F3 alone: the one string where the byte behind it is looked at
+abbrev pub isRepeatAlone : List ℕ → Bool
+isRepeatAlone [] = false
+isRepeatAlone (b ∷ []) = isRepeat b
+isRepeatAlone (b ∷ c ∷ s) = false
+
+same-repeats : (s u : List ℕ) → isRepeatAlone s ≡ false → 1 ≤ length s → repeats (s ++ u) ≡ repeats s
+unfolding repeats
+same-repeats [] u e l = absurd (omega arith)
+same-repeats (b ∷ []) u e l = rw e refl
+same-repeats (b ∷ c ∷ s) u e l = refl
+
+behind-stays : (b : ℕ) (r r′ : Read) → Stays r r′ → Stays (behindRepeat b r) (behindRepeat b r′)
+behind-stays b (Whole m n) r′ h = rw (h .whole m n refl) (unchanged _)
+behind-stays b Nothing r′ h = rw (h .nothing refl) (unchanged _)
+behind-stays b More r′ h = open-end _
+
+-- adding bytes changes neither answer, but of F2 or F3 alone
+pub stays : (off : ℕ) (s u : List ℕ) → isRepeatAlone s ≡ false → Stays (reads off s) (reads off (s ++ u))
 unfolding reads
-stays off [] u = open-end _
-stays off (b ∷ s) u = stays-pick (prefix b) (opcode-stays off b s u) (opcode-stays off 0 (b ∷ s) u)
+stays off [] u e = open-end _
+stays off (b ∷ s) u e =
+    rw (same-repeats (b ∷ s) u e (omega arith)) (stays-pick (repeats (b ∷ s)) (behind-stays b _ _ (plain-stays off s u)) (plain-stays off (b ∷ s) u))
 
 -- ---- More has a continuation
 -- g reads some bytes t
@@ -252,28 +276,56 @@ opcode-some off p (c ∷ t) bs e =
 abbrev pub Continues : ℕ → List ℕ → Type 0
 Continues off s = (t : List ℕ) × Bytes t × (m : Instruction) × (n : ℕ) × (reads off (s ++ t) ≡ Whole m n)
 
--- what stands behind an instruction is not looked at
-pub whole-stays : (off : ℕ) (s t : List ℕ) (m : Instruction) (n : ℕ) → reads off s ≡ Whole m n → reads off (s ++ t) ≡ Whole m n
-whole-stays off s t m n e = stays off s t .whole m n e
+-- what stands behind an instruction is not looked at, but behind F2 or F3 alone
+pub whole-stays : (off : ℕ) (s t : List ℕ) (m : Instruction) (n : ℕ) → isRepeatAlone s ≡ false → reads off s ≡ Whole m n → reads off (s ++ t) ≡ Whole m n
+whole-stays off s t m n h e = stays off s t h .whole m n e
+
+-- F2 or F3 alone is whole
+pub alone-whole : (off : ℕ) (s : List ℕ) → isRepeatAlone s ≡ true → (m : Instruction) × (reads off s ≡ Whole m 1)
+unfolding reads repeats
+alone-whole off [] e = let z : _≡_ {A = ℕ} 0 1 = cc in absurd (omega arith)
+alone-whole off (b ∷ []) e = let (op, k) = alone off b [] e in (bare op, rw e k)
+alone-whole off (b ∷ c ∷ s) e = let z : _≡_ {A = ℕ} 0 1 = cc in absurd (omega arith)
+
+-- so what is no instruction is not it
+not-alone : (off : ℕ) (s : List ℕ) → ((m : Instruction) (n : ℕ) → reads off s ≡ Whole m n → ⊥) → isRepeatAlone s ≡ false
+not-alone off s h = go (isRepeatAlone s) refl
+  where
+    go : (i : Bool) → isRepeatAlone s ≡ i → i ≡ false
+    go true e = let (m, k) = alone-whole off s e in absurd (h m 1 k)
+    go false e = refl
 
 -- what reads as nothing does so whatever follows
 pub nothing-never : (off : ℕ) (s t : List ℕ) → reads off s ≡ Nothing → reads off (s ++ t) ≡ Nothing
-nothing-never off s t e = stays off s t .nothing e
+nothing-never off s t e = stays off s t (not-alone off s (λ m n k. nothing-not-whole (sym e ∙ k))) .nothing e
 
 nothing-yet : (off : ℕ) → Continues off []
-unfolding reads readForm startingWith prefix forms canonical numberOf
+unfolding reads readPlain repeats isRepeat readForm startingWith prefix forms canonical numberOf
 nothing-yet off = (0x90 ∷ [], one-more 0x90 [] (omega arith) no-bytes, instruction Op.NOP S.Unspecified O.None O.None, 1, refl)
 
--- what is not complete has a continuation that is
-pub more-some : (off : ℕ) (s : List ℕ) → Bytes s → reads off s ≡ More → Continues off s
-unfolding reads
-more-some off [] bs e = nothing-yet off
-more-some off (b ∷ s) bs e = go (prefix b) e
+plain-some : (off : ℕ) (s : List ℕ) → Bytes s → 1 ≤ length s → readPlain off s ≡ More → Some (λ u. readPlain off (s ++ u))
+unfolding readPlain
+plain-some off [] bs l e = absurd (omega arith)
+plain-some off (b ∷ s) bs l e = go (prefix b) e
   where
     go : (q : Bool) → pick q (readOpcode off b s) (readOpcode off 0 (b ∷ s)) ≡ More
         → Some (λ u. pick q (readOpcode off b (s ++ u)) (readOpcode off 0 (b ∷ (s ++ u))))
     go true e = opcode-some off b s (λ i. bs (suc i)) e
     go false e = opcode-some off 0 (b ∷ s) bs e
+
+-- what is not complete has a continuation that is
+pub more-some : (off : ℕ) (s : List ℕ) → Bytes s → reads off s ≡ More → Continues off s
+more-some off [] bs e = nothing-yet off
+more-some off (b ∷ s) bs e = go (how-read off (b ∷ s))
+  where
+    n : isRepeatAlone (b ∷ s) ≡ false
+    n = not-alone off (b ∷ s) (λ m n k. more-not-whole (sym e ∙ k))
+
+    go : HowRead off (b ∷ s) → Continues off (b ∷ s)
+    go (with-repeat r) = absurd (more-not-whole (sym e ∙ r .reads-it))
+    go (without h q) =
+        let (u, us, m, k, w) = plain-some off (b ∷ s) bs (omega arith) (sym q ∙ e) in
+        (u, us, m, k, plain off ((b ∷ s) ++ u) (same-repeats (b ∷ s) u n (omega arith) ∙ h) ∙ w)
 
 -- the three answers
 pub data Answer (off : ℕ) (s : List ℕ) : Type 0 where
@@ -290,9 +342,10 @@ answer off s = go (reads off s) refl
     go Nothing e = is-nothing e
     go More e = is-more e
 
--- what document 01 says of the answers: 10 exactly where no continuation reads, 11 exactly where a continuation reads and s does not
+-- what documents 01 and 02 (No. 11) say of the answers: 10 exactly where no continuation reads, 11 exactly where a continuation reads and s does not;
+-- behind F2 or F3 alone, and nowhere else, the next byte is looked at
 pub record Answers (off : ℕ) (s : List ℕ) : Type 0 where
-  pub behind : (t : List ℕ) (m : Instruction) (n : ℕ) → reads off s ≡ Whole m n → reads off (s ++ t) ≡ Whole m n
+  pub behind : (t : List ℕ) (m : Instruction) (n : ℕ) → isRepeatAlone s ≡ false → reads off s ≡ Whole m n → reads off (s ++ t) ≡ Whole m n
   pub fits-in : (m : Instruction) (n : ℕ) → reads off s ≡ Whole m n → n ≤ length s
   pub ten : reads off s ≡ Nothing → Continues off s → ⊥
   pub ten-only : (Continues off s → ⊥) → reads off s ≡ Nothing
@@ -304,13 +357,13 @@ never off s e (t, bs, m, n, w) = nothing-not-whole (sym (nothing-never off s t e
 
 -- s continued by no bytes is s
 itself : (off : ℕ) (s : List ℕ) (m : Instruction) (n : ℕ) → reads off s ≡ Whole m n → Continues off s
-itself off s m n e = ([], no-bytes, m, n, whole-stays off s [] m n e)
+itself off s m n e = ([], no-bytes, m, n, rw (append-nil s) e)
 
 -- and so it is
 pub answers : (off : ℕ) (s : List ℕ) → Bytes s → Answers off s
 answers off s bs =
     record {
-      behind = whole-stays off s;
+      behind = λ t m n h e. whole-stays off s t m n h e;
       fits-in = not-longer off s;
       ten = never off s;
       ten-only = only-ten (answer off s);

@@ -2,6 +2,7 @@ pub mod Cases
 pub mod Tests
 pub mod Unambiguous
 pub mod ByForm
+pub mod Repeats
 pub mod Extend
 pub mod Sizes
 pub mod Rows

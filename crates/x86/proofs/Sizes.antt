@@ -1,6 +1,6 @@
 -- An instruction is 1 to 7 bytes long.
 -- Assumes nothing.
-use mathlib.Core.Path.{_≡_}
+use mathlib.Core.Path.{_≡_, sym, _∙_}
 use Prim.Native.Nat.{ℕ, _+_, _≤_, zero-le}
 use native.Mathlib.Omega.{arith}
 use mathlib.Core.Bool.{Bool, true, false}
@@ -10,9 +10,10 @@ use Rattle.mrc_compiler.specs.Choose.{pick}
 use Rattle.x86.specs.declared.Instruction.{Instruction}
 use Rattle.x86.specs.declared.Read.the-variants.{Whole}
 use Rattle.x86.specs.Forms.{Form, forms}
-use Rattle.x86.specs.Reading.{Place, nowhere, by-modrm, by-address, by-bx-al, about, addressLength, hasSecond, readOpcode, prefix, reads}
+use Rattle.x86.specs.Reading.{Place, nowhere, by-modrm, by-address, by-bx-al, about, addressLength, hasSecond, readOpcode, prefix, readPlain, reads}
 use Rattle.x86.proofs.Tests.{eachOf, each-at}
 use Rattle.x86.proofs.ByForm.{more-not-whole, ByForm, opcode-by, form-length, in-forms, prefix-length}
+use Rattle.x86.proofs.Repeats.{HowRead, with-repeat, without, how-read}
 
 -- the most address bytes that a place takes
 abbrev most : Place → ℕ
@@ -55,11 +56,19 @@ form-size off p s m n r =
     )
 
 -- with its prefix an instruction has 1 to 7 bytes
-pub read-size : (off : ℕ) (s : List ℕ) (m : Instruction) (n : ℕ) → reads off s ≡ Whole m n → (1 ≤ n) × (n ≤ 7)
-unfolding reads
-read-size off [] m n e = absurd (more-not-whole e)
-read-size off (b ∷ s) m n e = go (prefix b) e
+plain-size : (off : ℕ) (s : List ℕ) (m : Instruction) (n : ℕ) → readPlain off s ≡ Whole m n → (1 ≤ n) × (n ≤ 7)
+unfolding readPlain
+plain-size off [] m n e = absurd (more-not-whole e)
+plain-size off (b ∷ s) m n e = go (prefix b) e
   where
     go : (q : Bool) → pick q (readOpcode off b s) (readOpcode off 0 (b ∷ s)) ≡ Whole m n → (1 ≤ n) × (n ≤ 7)
     go true e = form-size off b s m n (opcode-by off b s e)
     go false e = form-size off 0 (b ∷ s) m n (opcode-by off 0 (b ∷ s) e)
+
+-- and so it has with a repeat
+pub read-size : (off : ℕ) (s : List ℕ) (m : Instruction) (n : ℕ) → reads off s ≡ Whole m n → (1 ≤ n) × (n ≤ 7)
+read-size off s m n e = go (how-read off s)
+  where
+    go : HowRead off s → (1 ≤ n) × (n ≤ 7)
+    go (with-repeat r) = let q : n ≡ 2 = cc in (omega arith, omega arith)
+    go (without h q) = plain-size off s m n (sym q ∙ e)

@@ -10,14 +10,11 @@ use Rattle.mrc_compiler.specs.Choose.{pick, both, either, isnt}
 use Rattle.x86.specs.declared.Read.{Read}
 use Rattle.x86.specs.declared.Read.the-variants.{Nothing}
 use Rattle.x86.specs.Forms.{Form, forms}
-use Rattle.x86.specs.Reading.{mode, digit, some, startingWith, fitting, hasSecond, mayNameMemory, readOpcode, prefix, reads}
+use Rattle.x86.specs.Reading.{mode, digit, some, startingWith, fitting, hasSecond, mayNameMemory, readOpcode, prefix, readPlain, reads}
 use Rattle.x86.specs.Rows.{rows}
 use Rattle.x86.proofs.Tests.{same, same-is, upTo, upTo-at}
+use Rattle.x86.proofs.Repeats.{oneOf, nothing-plain}
 use Rattle.x86.proofs.Rows.{empty, row-unused}
-
-abbrev oneOf : List ℕ → ℕ → Bool
-oneOf [] c = false
-oneOf (a ∷ l) c = either (eqb c a) (oneOf l c)
 
 -- from a to b
 abbrev between : ℕ → ℕ → ℕ → Bool
@@ -101,16 +98,16 @@ opcode-second off p c x t h k w u =
 
 -- first in the string
 pub first-nothing : (off c : ℕ) (s : List ℕ) → c < 256 → prefix c ≡ false → unreadFirst c ≡ true → reads off (c ∷ s) ≡ Nothing
-unfolding reads
-first-nothing off c s h b u = rw b (opcode-first off 0 c s h u)
+unfolding readPlain
+first-nothing off c s h b u = nothing-plain off (c ∷ s) (rw b (opcode-first off 0 c s h u))
 
 -- behind a prefix
 pub behind-prefix-nothing : (off p c : ℕ) (s : List ℕ) → c < 256 → prefix p ≡ true → unreadFirst c ≡ true → reads off (p ∷ c ∷ s) ≡ Nothing
-unfolding reads
-behind-prefix-nothing off p c s h b u = rw b (opcode-first off p c s h u)
+unfolding readPlain
+behind-prefix-nothing off p c s h b u = nothing-plain off (p ∷ c ∷ s) (rw b (opcode-first off p c s h u))
 
 -- as the second byte
 pub second-nothing : (off c x : ℕ) (s : List ℕ) → c < 256 → x < 256 → prefix c ≡ false → wantsSecond (startingWith c) ≡ true → unreadSecond c x ≡ true
     → reads off (c ∷ x ∷ s) ≡ Nothing
-unfolding reads
-second-nothing off c x s h k b w u = rw b (opcode-second off 0 c x s h k w u)
+unfolding readPlain
+second-nothing off c x s h k b w u = nothing-plain off (c ∷ x ∷ s) (rw b (opcode-second off 0 c x s h k w u))

@@ -16,7 +16,11 @@ use Rattle.x86.specs.declared.Operand.the-variants as O
 use Rattle.x86.specs.declared.Instruction.{Instruction}
 
 abbrev pub instruction : Operation → OperandSize → Operand → Operand → Instruction
-instruction op w a b = record { operation = op; width = w; first = a; second = b }
+instruction op w a b = record { repeat = 0; operation = op; width = w; first = a; second = b }
+
+-- the same, behind REPNE or REP
+abbrev pub repeated : ℕ → Instruction → Instruction
+repeated b m = record { repeat = b; operation = m .operation; width = m .width; first = m .first; second = m .second }
 
 -- ---- memory
 -- SS for rm 2, 3 and for rm 6 with mode 1 or 2, else DS

@@ -9,12 +9,13 @@ use Rattle.mrc_compiler.specs.declared.ast.Segment.the-variants as G
 use Rattle.mrc_compiler.specs.declared.encoder.OperandSize.{OperandSize}
 use Rattle.mrc_compiler.specs.declared.encoder.OperandSize.the-variants as S
 use Rattle.mrc_compiler.specs.Choose.{pick, both, either, isnt, bySize}
+use Rattle.mrc_compiler.specs.Operations.{isString}
 use Rattle.x86.specs.declared.Operand.{Operand}
 use Rattle.x86.specs.declared.Operand.the-variants as O
 use Rattle.x86.specs.declared.Instruction.{Instruction}
 use Rattle.x86.specs.declared.Read.{Read}
 use Rattle.x86.specs.declared.Read.the-variants.{Whole, Nothing, More}
-use Rattle.x86.specs.Instructions.{defaultSegment, inEffect, base, canonical}
+use Rattle.x86.specs.Instructions.{defaultSegment, inEffect, base, canonical, repeated}
 use Rattle.x86.specs.Forms.{byte, word, Slot, rm, rm-near, mem, mem-far, reg, sreg, sreg-not-cs, acc, low3, bits34, bits34-not-cs, CL, DX, one, moffs, xlat, ib, iw, ib-sx, cb, cw, ptr, nil, Extension, Form, forms}
 use Rattle.x86.specs.Forms as F
 -- what is known of a slot before the bytes behind the opcode are read
@@ -241,6 +242,28 @@ unfoldable pub prefix : ℕ → Bool
 prefix b = either (eqb b 0x26) (either (eqb b 0x2E) (either (eqb b 0x36) (eqb b 0x3E)))
 
 -- at most one segment prefix, and what follows it read as the rest of the same bytes
+unfoldable pub readPlain : ℕ → List ℕ → Read
+readPlain off [] = More
+readPlain off (b ∷ s) = pick (prefix b) (readOpcode off b s) (readOpcode off 0 (b ∷ s))
+
+-- ---- REPNE and REP: F2 or F3 before a string operation belongs to it, and else is an instruction of its own
+unfoldable pub isRepeat : ℕ → Bool
+isRepeat b = either (eqb b 0xF2) (eqb b 0xF3)
+
+abbrev pub beginsString : List ℕ → Bool
+beginsString [] = false
+beginsString (c ∷ t) = some (λ f. isString (f .operation)) (startingWith c)
+
+unfoldable pub repeats : List ℕ → Bool
+repeats [] = false
+repeats (b ∷ s) = both (isRepeat b) (beginsString s)
+
+-- what is read behind the repeat b. A string operation has no target, so its offset does not count
+abbrev pub behindRepeat : ℕ → Read → Read
+behindRepeat b (Whole m n) = Whole (repeated b m) (suc n)
+behindRepeat b Nothing = Nothing
+behindRepeat b More = More
+
 unfoldable pub reads : ℕ → List ℕ → Read
 reads off [] = More
-reads off (b ∷ s) = pick (prefix b) (readOpcode off b s) (readOpcode off 0 (b ∷ s))
+reads off (b ∷ s) = pick (repeats (b ∷ s)) (behindRepeat b (readPlain off s)) (readPlain off (b ∷ s))

@@ -1,7 +1,7 @@
 // An instruction as it counts for 'same instruction' (REFERENCE 6), and what a reading gives.
 ghost use mathlib.Core.Path.{_≡_};
 ghost use Prim.Native.Nat.{_<_};
-ghost use Rattle.x86.specs.Reading.{displacementLength};
+ghost use Rattle.x86.specs.Reading.{displacementLength, isRepeat};
 use mrc_compiler::ast::Segment;
 use mrc_compiler::encoder::OperandSize;
 use mrc_compiler::operations::Operation;
@@ -36,6 +36,8 @@ pub enum Operand {
 
 // Two records or byte strings are the same instruction where these are equal.
 pub struct Instruction {
+    // The byte of REPNE or REP, F2 or F3, before a string operation; 0 where there is none.
+    pub repeat: u8,
     pub operation: Operation,
 
     // The form's width; Unspecified where the form has none.
@@ -67,4 +69,14 @@ pub fn displacement_length(mode: u8, rm: u8) -> u8
         2 => 2,
         _ => 0,
     }
+}
+
+// The bytes of REPNE and REP.
+pub fn is_repeat(b: u8) -> bool
+    ensures { λ r. ⌜ r ≡ isRepeat b ⌝ }
+{
+    if b == 0xF2 {
+        return true;
+    }
+    b == 0xF3
 }

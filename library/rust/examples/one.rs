@@ -1,6 +1,7 @@
-//! Encodes Word ADD [BX],5, tells its form, reads it back, lists all of its strings, and shows a refusal with its question.
+//! Encodes Word ADD [BX],5, tells its form, reads it back, lists all of its strings, and shows a refusal with its question; then REP MOVSB, encoded and
+//! read.
 
-use fsq::{encode, form, list, read, Base, Instruction, Operand, Operation, Refusal};
+use fsq::{encode, form, list, read, Base, Instruction, Operand, Operation, Refusal, Repeat};
 
 fn main() -> Result<(), Refusal> {
     let add = Instruction::two(Operation::ADD, Operand::memory(Base::BX, 0).word(), 5);
@@ -18,5 +19,10 @@ fn main() -> Result<(), Refusal> {
             println!("question {question}");
         }
     }
+
+    let copy = Instruction::none(Operation::MOVSB).repeated(Repeat::Rep);
+    let bytes = encode(&copy, 256)?;
+    println!("encoded: {bytes}");
+    println!("read: {}", read(&bytes, 256)?);
     Ok(())
 }

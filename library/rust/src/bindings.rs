@@ -51,9 +51,11 @@ pub const FSQ_NO_MARK: u8 = 12;
 pub const FSQ_WRONG_VERSION: u8 = 13;
 pub const FSQ_WRONG_LENGTH: u8 = 14;
 pub const FSQ_UNKNOWN_CODE: u8 = 15;
+pub const FSQ_INVALID_REPEAT: u8 = 23;
 
 // enum fsq_length
 pub const FSQ_RECORD_LENGTH: usize = 56;
+pub const FSQ_REPEAT_RECORD_LENGTH: usize = 57;
 pub const FSQ_REPORT_LENGTH: usize = 28;
 pub const FSQ_STRING_LENGTH: usize = 7;
 pub const FSQ_READING_LENGTH: usize = 24;
@@ -63,7 +65,7 @@ pub const FSQ_FORM_LENGTH: usize = 64;
 pub const FSQ_HEADER_LENGTH: usize = 9;
 pub const FSQ_OPERAND_LENGTH: usize = 23;
 pub const FSQ_IMAGE_LENGTH: usize = 56000;
-pub const FSQ_FILE_LENGTH: usize = 448009;
+pub const FSQ_FILE_LENGTH: usize = 456009;
 
 // enum fsq_limit
 pub const FSQ_MOST_RECORDS: u16 = 8000;
@@ -71,6 +73,7 @@ pub const FSQ_SHORT_RECORDS: u16 = 1000;
 pub const FSQ_MOST_ENTRIES: u16 = 12;
 pub const FSQ_FILE_VERSION: u16 = 1;
 pub const FSQ_LONG_VERSION: u16 = 2;
+pub const FSQ_REPEAT_VERSION: u16 = 3;
 
 // enum fsq_report
 pub const FSQ_REPORT_LENGTH_AT: usize = 0;
@@ -90,6 +93,7 @@ pub const FSQ_HEADER_COUNT_AT: usize = 7;
 // enum fsq_record
 pub const FSQ_OPERATION_AT: usize = 0;
 pub const FSQ_COUNT_AT: usize = 1;
+pub const FSQ_REPEAT_AT: usize = 2;
 pub const FSQ_SPAN_START_AT: usize = 2;
 pub const FSQ_SPAN_END_AT: usize = 6;
 pub const FSQ_FIRST_AT: usize = 10;
@@ -125,12 +129,18 @@ pub const FSQ_FAR: u8 = 1;
 pub const FSQ_NEAR: u8 = 2;
 pub const FSQ_SHORT: u8 = 3;
 
+// enum fsq_repeat
+pub const FSQ_REPEAT_NONE: u8 = 0;
+pub const FSQ_REPEAT_REPNE: u8 = 242;
+pub const FSQ_REPEAT_REP: u8 = 243;
+
 // enum fsq_reading
 pub const FSQ_READ_LENGTH_AT: usize = 0;
 pub const FSQ_READ_OPERATION_AT: usize = 1;
 pub const FSQ_READ_WIDTH_AT: usize = 2;
 pub const FSQ_READ_OPCODE_AT: usize = 3;
 pub const FSQ_READ_EXTENSION_AT: usize = 4;
+pub const FSQ_READ_REPEAT_AT: usize = 5;
 pub const FSQ_READ_FIRST_AT: usize = 8;
 pub const FSQ_READ_SECOND_AT: usize = 16;
 

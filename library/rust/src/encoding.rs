@@ -67,27 +67,32 @@ impl<'a> IntoIterator for &'a Bytes {
     }
 }
 
-/// Equality with what has bytes, in both orders.
+/// Equality of a type with what has bytes, in both orders.
 macro_rules! equal_as_slices {
-    ($([$($parameter:tt)*] $other:ty),* $(,)?) => {$(
-        impl<$($parameter)*> PartialEq<$other> for Bytes {
+    ($type:ty: $([$($parameter:tt)*] $other:ty),* $(,)?) => {$(
+        impl<$($parameter)*> PartialEq<$other> for $type {
             fn eq(&self, other: &$other) -> bool {
                 self[..] == other[..]
             }
         }
 
-        impl<$($parameter)*> PartialEq<Bytes> for $other {
-            fn eq(&self, other: &Bytes) -> bool {
+        impl<$($parameter)*> PartialEq<$type> for $other {
+            fn eq(&self, other: &$type) -> bool {
                 self[..] == other[..]
             }
         }
     )*};
+    ($type:ty) => {
+        equal_as_slices!($type: [] [u8], [] &[u8], [const N: usize] [u8; N], [const N: usize] &[u8; N]);
+
+        #[cfg(feature = "alloc")]
+        equal_as_slices!($type: [] alloc::vec::Vec<u8>);
+    };
 }
 
-equal_as_slices!([] [u8], [] &[u8], [const N: usize] [u8; N], [const N: usize] &[u8; N]);
+pub(crate) use equal_as_slices;
 
-#[cfg(feature = "alloc")]
-equal_as_slices!([] alloc::vec::Vec<u8>);
+equal_as_slices!(Bytes);
 
 impl fmt::Display for Bytes {
     fn fmt(&self, f: &mut fmt::Formatter<'_>) -> fmt::Result {
@@ -120,7 +125,7 @@ pub fn encode(instruction: &Instruction, offset: u16) -> Result<Bytes, Refusal> 
     encode_record(&instruction.to_record(), offset)
 }
 
-/// Encodes a record of a show file at an offset: any 56 bytes are safe. Another length is refused with 14.
+/// Encodes a record of a show file at an offset: any 56 bytes are safe, or 57 with a repeat. Another length is refused with 14.
 ///
 /// ```
 /// use fsq::{encode_record, Instruction, Operation, Reason};

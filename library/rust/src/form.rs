@@ -44,7 +44,7 @@ impl Form {
         parts
     }
 
-    /// The opcode as written, with the register of a +r or +s; never the prefix.
+    /// The opcode as written, with the register of a +r or +s; never the prefix nor the repeat.
     pub fn opcode(&self) -> u8 {
         self.parts().next().and_then(|opcode| u8::from_str_radix(opcode, 16).ok()).expect("an opcode stands first")
     }
@@ -102,7 +102,7 @@ pub fn form(instruction: &Instruction, offset: u16) -> Result<Form, Refusal> {
     form_record(&instruction.to_record(), offset)
 }
 
-/// Tells by which form a record of a show file is written; any 56 bytes are safe. It is refused where [`encode_record`](crate::encode_record) refuses it.
+/// Tells by which form a record of a show file is written; any 56 or 57 bytes are safe. It is refused where [`encode_record`](crate::encode_record) refuses it.
 ///
 /// ```
 /// use fsq::{form_record, Instruction, Operation, Reason};

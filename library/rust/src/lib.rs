@@ -37,6 +37,18 @@
 //! # Ok::<(), fsq::Refusal>(())
 //! ```
 //!
+//! A repeat belongs to its string operation, and is read with it; a show with one is a file of version 3:
+//!
+//! ```
+//! use fsq::{encode, read, Instruction, Operation, Repeat};
+//!
+//! // Document 02, No. 11, and the SDM's F3 A4.
+//! let copy = Instruction::none(Operation::MOVSB).repeated(Repeat::Rep);
+//! assert_eq!(encode(&copy, 0)?, [0xF3, 0xA4]);
+//! assert_eq!(read(&[0xF3, 0xA4], 0)?.to_string(), "REP MOVSB");
+//! # Ok::<(), fsq::Refusal>(())
+//! ```
+//!
 //! The functions keep nothing between calls, and several threads may call them at once. They are proved; the text of instructions and operands
 //! is not.
 //!
@@ -67,7 +79,7 @@ mod text;
 
 pub use encoding::{encode, encode_record, Bytes};
 pub use form::{form, form_record, Form};
-pub use instruction::{Instruction, RECORD_LENGTH};
+pub use instruction::{Instruction, RecordBytes, Repeat, RECORD_LENGTH, REPEAT_RECORD_LENGTH};
 pub use listing::{list, list_record, List};
 pub use operand::{Base, Jump, Operand, Register, Segment, Size, Span};
 pub use operation::Operation;

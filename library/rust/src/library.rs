@@ -4,11 +4,12 @@
 //! functions write nothing outside of them, and only what a call's contract says.
 
 use crate::bindings::{
-    fsq_encode, fsq_form, fsq_list, fsq_load, fsq_read, FSQ_DONE, FSQ_FORM_LENGTH, FSQ_HEADER_LENGTH, FSQ_NO_RECORD, FSQ_READING_LENGTH,
-    FSQ_RECORD_LENGTH, FSQ_REPORT_HIGH_AT, FSQ_REPORT_LENGTH, FSQ_REPORT_LENGTH_AT, FSQ_REPORT_LOW_AT, FSQ_REPORT_RECORD_AT,
+    fsq_encode, fsq_form, fsq_list, fsq_load, fsq_read, FSQ_DONE, FSQ_FORM_LENGTH, FSQ_HEADER_LENGTH, FSQ_INVALID_REPEAT, FSQ_NO_RECORD,
+    FSQ_READING_LENGTH, FSQ_REPORT_HIGH_AT, FSQ_REPORT_LENGTH, FSQ_REPORT_LENGTH_AT, FSQ_REPORT_LOW_AT, FSQ_REPORT_RECORD_AT,
     FSQ_REPORT_SPAN_END_AT, FSQ_REPORT_SPAN_START_AT, FSQ_REPORT_VALUE_AT, FSQ_SLICE_TOO_SHORT, FSQ_STRING_LENGTH,
 };
 use crate::refusal::{question_of, Found, Reason, Refusal};
+use crate::show::record_length;
 
 type Report = [u8; FSQ_REPORT_LENGTH];
 
@@ -65,7 +66,7 @@ pub fn load(file: &[u8], image: &mut [u8]) -> Result<usize, Refusal> {
     // SAFETY: as in encode.
     let number = unsafe { fsq_load(file.as_ptr(), file.len(), image.as_mut_ptr(), image.len(), report.as_mut_ptr(), report.len()) };
     answered(number, &report, |refusal| {
-        let at = |record: u32| FSQ_HEADER_LENGTH + FSQ_RECORD_LENGTH * record as usize;
+        let at = |record: u32| FSQ_HEADER_LENGTH + record_length(file) * record as usize;
         let record = refusal.record.and_then(|record| file.get(at(record)..at(record + 1)));
         Refusal { found: Found::in_file(number, record, file), question: record.and_then(|record| question_of(number, record)), ..refusal }
     })
@@ -97,7 +98,8 @@ fn refused(number: u8, report: &Report) -> Refusal {
     let signed = |at: usize| field(at) as i32;
     Refusal {
         reason: Reason::of(number, signed(FSQ_REPORT_VALUE_AT), signed(FSQ_REPORT_LOW_AT), signed(FSQ_REPORT_HIGH_AT)),
-        span: (number <= FSQ_SLICE_TOO_SHORT).then(|| field(FSQ_REPORT_SPAN_START_AT)..field(FSQ_REPORT_SPAN_END_AT)),
+        span: (number <= FSQ_SLICE_TOO_SHORT || number == FSQ_INVALID_REPEAT)
+            .then(|| field(FSQ_REPORT_SPAN_START_AT)..field(FSQ_REPORT_SPAN_END_AT)),
         record: Some(field(FSQ_REPORT_RECORD_AT)).filter(|&record| record != FSQ_NO_RECORD),
         found: None,
         question: None,

@@ -75,7 +75,7 @@ pub fn list(instruction: &Instruction, offset: u16) -> Result<List, Refusal> {
     list_record(&instruction.to_record(), offset)
 }
 
-/// Lists the byte strings of a record of a show file; any 56 bytes are safe. It is refused where [`encode_record`](crate::encode_record) refuses it.
+/// Lists the byte strings of a record of a show file; any 56 or 57 bytes are safe. It is refused where [`encode_record`](crate::encode_record) refuses it.
 ///
 /// ```
 /// use fsq::{list_record, Instruction, Operation, Register};

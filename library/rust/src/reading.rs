@@ -4,9 +4,10 @@ use crate::bindings::{
     FSQ_BYTE, FSQ_EXTENSION_0A, FSQ_EXTENSION_DIGIT, FSQ_EXTENSION_MODRM, FSQ_EXTENSION_PLUS_REGISTER, FSQ_EXTENSION_PLUS_SEGMENT,
     FSQ_READ_EXTENSION_AT, FSQ_READ_FAR, FSQ_READ_FAR_SEGMENT_AT, FSQ_READ_FIRST_AT, FSQ_READ_IMMEDIATE, FSQ_READ_KIND_AT,
     FSQ_READ_LENGTH_AT, FSQ_READ_MEMORY, FSQ_READ_NEAR, FSQ_READ_NUMBER_AT, FSQ_READ_ONE, FSQ_READ_OPCODE_AT, FSQ_READ_OPERATION_AT,
-    FSQ_READ_REGISTER, FSQ_READ_SECOND_AT, FSQ_READ_SEGMENT_AT, FSQ_READ_SEGMENT_REGISTER, FSQ_READ_VALUE_AT, FSQ_READ_WIDTH_AT, FSQ_WORD,
+    FSQ_READ_REGISTER, FSQ_READ_REPEAT_AT, FSQ_READ_SECOND_AT, FSQ_READ_SEGMENT_AT, FSQ_READ_SEGMENT_REGISTER, FSQ_READ_VALUE_AT,
+    FSQ_READ_WIDTH_AT, FSQ_WORD,
 };
-use crate::instruction::Instruction;
+use crate::instruction::{Instruction, Repeat};
 use crate::library;
 use crate::operand::{Base, Jump, Operand, Register, Segment, Size};
 use crate::operation::Operation;
@@ -82,11 +83,13 @@ pub struct Reading {
     pub offset: u16,
     /// the number of its bytes
     pub length: usize,
+    /// the repeat before a string operation
+    pub repeat: Option<Repeat>,
     /// the operation
     pub operation: Operation,
     /// the width, where the form has one; a far CALL through memory has none
     pub width: Option<Size>,
-    /// the form's opcode, without a register that is added to it
+    /// the form's opcode, without a register that is added to it; behind a repeat the string operation's
     pub opcode: u8,
     /// what follows the opcode
     pub extension: Extension,
@@ -94,18 +97,24 @@ pub struct Reading {
     pub operands: [Option<Part>; 2],
 }
 
-/// Reads the instruction at the front of some bytes; what follows it is not looked at. The offset is where the bytes stand, and near targets are
-/// answered for it.
+/// Reads the instruction at the front of some bytes; what follows it is not looked at, but for the byte behind F2 or F3. The offset is where the bytes
+/// stand, and near targets are answered for it.
 ///
 /// ```
-/// use fsq::{read, Reason};
+/// use fsq::{read, Reason, Repeat};
 ///
 /// // Document 01: LOOP 256 at 261 is E2 F9.
 /// let reading = read(&[0xE2, 0xF9, 0x90], 261)?;
 /// assert_eq!(reading.to_string(), "LOOP 256");
 /// assert_eq!(reading.length, 2);
 ///
-/// // Its bench sheet: no bytes are 11, and 26 8B C0 is 10.
+/// // Document 02, No. 11: F3 is a string operation's repeat, and else an instruction of one byte.
+/// let reading = read(&[0xF3, 0xA4], 0)?;
+/// assert_eq!((reading.to_string().as_str(), reading.length, reading.repeat), ("REP MOVSB", 2, Some(Repeat::Rep)));
+/// let reading = read(&[0xF3, 0x90], 0)?;
+/// assert_eq!((reading.to_string().as_str(), reading.length, reading.repeat), ("REP", 1, None));
+///
+/// // Document 01's bench sheet: no bytes are 11, and 26 8B C0 is 10.
 /// assert_eq!(read(&[], 0).unwrap_err().reason, Reason::NotComplete);
 /// assert_eq!(read(&[0x26, 0x8B, 0xC0], 0).unwrap_err().reason, Reason::NotAnInstruction);
 /// # Ok::<(), fsq::Refusal>(())
@@ -127,8 +136,8 @@ pub fn read(bytes: &[u8], offset: u16) -> Result<Reading, Refusal> {
         _ => Extension::None,
     };
     let operands = [part(&out[FSQ_READ_FIRST_AT..], operation, width, 0), part(&out[FSQ_READ_SECOND_AT..], operation, width, 1)];
-    let (length, opcode) = (out[FSQ_READ_LENGTH_AT] as usize, out[FSQ_READ_OPCODE_AT]);
-    Ok(Reading { offset, length, operation, width, opcode, extension, operands })
+    let (length, opcode, repeat) = (out[FSQ_READ_LENGTH_AT] as usize, out[FSQ_READ_OPCODE_AT], Repeat::of(out[FSQ_READ_REPEAT_AT]));
+    Ok(Reading { offset, length, repeat, operation, width, opcode, extension, operands })
 }
 
 fn part(field: &[u8], operation: Operation, width: Option<Size>, place: usize) -> Option<Part> {
@@ -240,11 +249,12 @@ impl Reading {
 /// Short. Its bytes are those of [`encode`](crate::encode), which may be others than those that were read.
 impl From<&Reading> for Instruction {
     fn from(reading: &Reading) -> Instruction {
-        match reading.operands {
+        let instruction = match reading.operands {
             [Some(first), Some(second)] => Instruction::two(reading.operation, reading.operand(first), reading.operand(second)),
             [Some(one), None] | [None, Some(one)] => Instruction::one(reading.operation, reading.operand(one)),
             [None, None] => Instruction::none(reading.operation),
-        }
+        };
+        instruction.repeated(reading.repeat)
     }
 }
 
@@ -257,6 +267,9 @@ impl From<Reading> for Instruction {
 
 impl fmt::Display for Reading {
     fn fmt(&self, f: &mut fmt::Formatter<'_>) -> fmt::Result {
+        if let Some(repeat) = self.repeat {
+            write!(f, "{} ", repeat.name())?;
+        }
         write!(f, "{}", self.operation)?;
         for (n, part) in self.operands.iter().flatten().enumerate() {
             f.write_str(if n == 0 { " " } else { "," })?;

@@ -1,8 +1,10 @@
 //! Refusals.
 
 use crate::bindings::*;
+use crate::instruction::further;
 use crate::operand::Span;
 use crate::operation::Operation;
+use crate::show::record_length;
 use core::fmt;
 
 /// Why something is refused, with the values that belong to the reason.
@@ -43,12 +45,14 @@ pub enum Reason {
     NotComplete,
     /// 12: the file does not begin with `FSQ`.
     NoMark,
-    /// 13: the file's version is neither 1 nor 2.
+    /// 13: the file's version is not 1, 2 or 3.
     WrongVersion,
     /// 14: the file or the record is shorter or longer than it says, or the file's version does not take its count.
     WrongLength,
     /// 15: a record has an operation, kind, size or jump kind that does not exist.
     UnknownCode,
+    /// 23: the repeat is neither F2 nor F3, or the operation is no string operation and has one.
+    InvalidRepeat,
     /// Another number: one that the library has and this crate does not know.
     Other(u8),
 }
@@ -59,7 +63,7 @@ pub enum Reason {
 pub enum Found {
     /// 13: the file's version
     Version(u16),
-    /// 14: the length of a record that has not 56 bytes
+    /// 14: the length of a record that has neither 56 bytes nor, with a repeat, 57
     RecordLength(usize),
     /// 14: the length of a file without a whole header, which has 9 bytes
     HeaderLength(usize),
@@ -78,11 +82,13 @@ pub enum Found {
     FileLength {
         /// the length of the file
         length: usize,
-        /// the length that its count asks for, 9 + 56 for each record
+        /// the length that its count asks for, 9 + 56 for each record, or 57 in version 3
         expected: usize,
     },
     /// 15: the first code of the record that does not exist
     Code {
+        /// what it is a code of: `operation`, `kind`, `size`, `displacement size` or `jump kind`
+        name: &'static str,
         /// the byte of the record
         at: usize,
         /// the code
@@ -112,7 +118,7 @@ impl Found {
                 let (version, count) = (field(FSQ_HEADER_VERSION_AT)?, field(FSQ_HEADER_COUNT_AT)?);
                 let (low, high) = counts_of(version)?;
                 Some(if (low..=high).contains(&count) {
-                    Found::FileLength { length: file.len(), expected: FSQ_HEADER_LENGTH + FSQ_RECORD_LENGTH * usize::from(count) }
+                    Found::FileLength { length: file.len(), expected: FSQ_HEADER_LENGTH + record_length(file) * usize::from(count) }
                 } else {
                     Found::Count { version, count, low, high }
                 })
@@ -122,19 +128,20 @@ impl Found {
         }
     }
 
-    /// The first code of a record of 56 bytes that does not exist.
+    /// The first code of a record of 56 or 57 bytes that does not exist.
     pub(crate) fn unknown_code(record: &[u8]) -> Option<Found> {
-        const OPERATION: (usize, u8) = (FSQ_OPERATION_AT, Operation::ALL.len() as u8 - 1);
-        const fn highest(operand: usize) -> [(usize, u8); 4] {
+        const OPERATION: (&str, usize, u8) = ("operation", FSQ_OPERATION_AT, Operation::ALL.len() as u8 - 1);
+        const fn highest(operand: usize) -> [(&'static str, usize, u8); 4] {
             [
-                (operand + FSQ_KIND_AT, FSQ_MEM),
-                (operand + FSQ_SIZE_AT, FSQ_WORD),
-                (operand + FSQ_DISPLACEMENT_SIZE_AT, FSQ_WORD),
-                (operand + FSQ_JUMP_AT, FSQ_SHORT),
+                ("kind", operand + FSQ_KIND_AT, FSQ_MEM),
+                ("size", operand + FSQ_SIZE_AT, FSQ_WORD),
+                ("displacement size", operand + FSQ_DISPLACEMENT_SIZE_AT, FSQ_WORD),
+                ("jump kind", operand + FSQ_JUMP_AT, FSQ_SHORT),
             ]
         }
-        let code = |(at, high): (usize, u8)| record.get(at).map(|&value| Found::Code { at, value, high });
-        let codes = [OPERATION].into_iter().chain(highest(FSQ_FIRST_AT)).chain(highest(FSQ_SECOND_AT));
+        let code = |(name, at, high)| record.get(at).map(|&value| Found::Code { name, at, value, high });
+        let operands = [FSQ_FIRST_AT, FSQ_SECOND_AT].map(|operand| highest(operand + further(record)));
+        let codes = [OPERATION].into_iter().chain(operands.into_iter().flatten());
         codes.filter_map(code).find(|found| matches!(found, Found::Code { value, high, .. } if value > high))
     }
 }
@@ -144,6 +151,7 @@ fn counts_of(version: u16) -> Option<(u16, u16)> {
     match version {
         FSQ_FILE_VERSION => Some((0, FSQ_SHORT_RECORDS)),
         FSQ_LONG_VERSION => Some((FSQ_SHORT_RECORDS + 1, FSQ_MOST_RECORDS)),
+        FSQ_REPEAT_VERSION => Some((0, FSQ_MOST_RECORDS)),
         _ => None,
     }
 }
@@ -151,24 +159,18 @@ fn counts_of(version: u16) -> Option<(u16, u16)> {
 impl fmt::Display for Found {
     fn fmt(&self, f: &mut fmt::Formatter<'_>) -> fmt::Result {
         match *self {
-            Found::Version(version) => write!(f, "the version of the show file is {version}, not {FSQ_FILE_VERSION} or {FSQ_LONG_VERSION}"),
-            Found::RecordLength(length) => write!(f, "the record has {length} bytes, not {FSQ_RECORD_LENGTH}"),
+            Found::Version(version) => {
+                write!(f, "the version of the show file is {version}, not {FSQ_FILE_VERSION}, {FSQ_LONG_VERSION} or {FSQ_REPEAT_VERSION}")
+            }
+            Found::RecordLength(length) => {
+                write!(f, "the record has {length} bytes, not {FSQ_RECORD_LENGTH} or {FSQ_REPEAT_RECORD_LENGTH}")
+            }
             Found::HeaderLength(length) => write!(f, "the show file has {length} bytes, and its header alone {FSQ_HEADER_LENGTH}"),
             Found::Count { version, count, low, high } => {
                 write!(f, "the count of the show file is {count}, outside {low}..{high} of version {version}")
             }
             Found::FileLength { length, expected } => write!(f, "the show file has {length} bytes, and by its count {expected}"),
-            Found::Code { at, value, high } => {
-                let operand = if at < FSQ_SECOND_AT { FSQ_FIRST_AT } else { FSQ_SECOND_AT };
-                let name = match at.checked_sub(operand) {
-                    None => "operation",
-                    Some(FSQ_KIND_AT) => "kind",
-                    Some(FSQ_SIZE_AT) => "size",
-                    Some(FSQ_DISPLACEMENT_SIZE_AT) => "displacement size",
-                    _ => "jump kind",
-                };
-                write!(f, "{name} {value}, at byte {at} of the record, is outside 0..{high}")
-            }
+            Found::Code { name, at, value, high } => write!(f, "{name} {value}, at byte {at} of the record, is outside 0..{high}"),
         }
     }
 }
@@ -179,7 +181,7 @@ impl fmt::Display for Found {
 pub struct Refusal {
     /// Why, with the values that belong to it.
     pub reason: Reason,
-    /// The place in the source of the operand or the instruction, for the reasons 1 to 9.
+    /// The place in the source of the operand or the instruction, for the reasons 1 to 9 and 23.
     pub span: Option<Span>,
     /// The record of the file, from 0.
     pub record: Option<u32>,
@@ -194,7 +196,7 @@ impl Refusal {
         self.reason.number()
     }
 
-    /// The question whose answer is no, 1 to 8 (REFERENCE 5), for the reasons 1 to 9. Its number is not the reason's.
+    /// The question whose answer is no, 1 to 8 (REFERENCE 5), for the reasons 1 to 9 and 23. Its number is not the reason's.
     ///
     /// ```
     /// use fsq::{encode, Instruction, Operand, Operation};
@@ -215,9 +217,10 @@ impl Refusal {
 pub(crate) fn question_of(number: u8, record: &[u8]) -> Option<u8> {
     Some(match number {
         FSQ_NOT_WELL_FORMED => 1,
+        FSQ_INVALID_REPEAT => 1,
         FSQ_NOT_SUPPORTED => 2,
         FSQ_OPERAND_SIZE_NOT_SPECIFIED => 3,
-        FSQ_INVALID_OPERAND_SIZE if record.get(FSQ_FIRST_AT + FSQ_SIZE_AT) != Some(&FSQ_WORD) => 3,
+        FSQ_INVALID_OPERAND_SIZE if record.get(FSQ_FIRST_AT + further(record) + FSQ_SIZE_AT) != Some(&FSQ_WORD) => 3,
         FSQ_OPERAND_SIZES_DO_NOT_MATCH => 4,
         FSQ_INVALID_OPERAND_SIZE | FSQ_INVALID_OPERANDS => 5,
         FSQ_IMMEDIATE_OUT_OF_RANGE => 6,
@@ -228,7 +231,7 @@ pub(crate) fn question_of(number: u8, record: &[u8]) -> Option<u8> {
 }
 
 impl Reason {
-    /// The number: 1 to 15, or another of a later library.
+    /// The number: 1 to 15, 23, or another of a later library.
     pub fn number(&self) -> u8 {
         match self {
             Reason::InvalidOperands => FSQ_INVALID_OPERANDS,
@@ -246,6 +249,7 @@ impl Reason {
             Reason::WrongVersion => FSQ_WRONG_VERSION,
             Reason::WrongLength => FSQ_WRONG_LENGTH,
             Reason::UnknownCode => FSQ_UNKNOWN_CODE,
+            Reason::InvalidRepeat => FSQ_INVALID_REPEAT,
             Reason::Other(number) => *number,
         }
     }
@@ -268,6 +272,7 @@ impl Reason {
             FSQ_WRONG_VERSION => Reason::WrongVersion,
             FSQ_WRONG_LENGTH => Reason::WrongLength,
             FSQ_UNKNOWN_CODE => Reason::UnknownCode,
+            FSQ_INVALID_REPEAT => Reason::InvalidRepeat,
             other => Reason::Other(other),
         }
     }
@@ -288,9 +293,12 @@ impl fmt::Display for Reason {
             Reason::NotAnInstruction => f.write_str("no instruction begins with these bytes"),
             Reason::NotComplete => f.write_str("the instruction is not complete"),
             Reason::NoMark => f.write_str("this is no show file: it does not begin with FSQ"),
-            Reason::WrongVersion => write!(f, "the version of the show file is not {FSQ_FILE_VERSION} or {FSQ_LONG_VERSION}"),
+            Reason::WrongVersion => {
+                write!(f, "the version of the show file is not {FSQ_FILE_VERSION}, {FSQ_LONG_VERSION} or {FSQ_REPEAT_VERSION}")
+            }
             Reason::WrongLength => f.write_str("the length is not the one that the show file or record has to have"),
             Reason::UnknownCode => f.write_str("an operation, kind, size or jump kind does not exist"),
+            Reason::InvalidRepeat => f.write_str("the repeat is neither REP nor REPNE, or the operation takes none"),
             Reason::Other(number) => write!(f, "the reason {number}, which this crate does not know"),
         }
     }

@@ -1,8 +1,10 @@
 //! Show files.
 
 use crate::bindings::{
-    FSQ_HEADER_COUNT_AT, FSQ_HEADER_LENGTH, FSQ_HEADER_ORIGIN_AT, FSQ_HEADER_VERSION_AT, FSQ_READ_LENGTH_AT, FSQ_RECORD_LENGTH,
+    FSQ_HEADER_COUNT_AT, FSQ_HEADER_LENGTH, FSQ_HEADER_ORIGIN_AT, FSQ_HEADER_VERSION_AT, FSQ_READ_LENGTH_AT, FSQ_READ_REPEAT_AT,
+    FSQ_RECORD_LENGTH, FSQ_REPEAT_RECORD_LENGTH, FSQ_REPEAT_VERSION,
 };
+use crate::instruction::repeat_in;
 use crate::library;
 use crate::refusal::Refusal;
 use core::fmt;
@@ -11,7 +13,7 @@ use core::slice::ChunksExact;
 
 #[cfg(feature = "alloc")]
 use {
-    crate::bindings::{FSQ_FILE_VERSION, FSQ_LONG_VERSION, FSQ_SHORT_RECORDS, FSQ_STRING_LENGTH},
+    crate::bindings::{FSQ_FILE_VERSION, FSQ_LONG_VERSION, FSQ_REPEAT_NONE, FSQ_SHORT_RECORDS, FSQ_STRING_LENGTH},
     crate::instruction::Instruction,
     alloc::{borrow::Cow, vec, vec::Vec},
 };
@@ -21,27 +23,48 @@ type Image<'a> = Cow<'a, [u8]>;
 #[cfg(not(feature = "alloc"))]
 type Image<'a> = &'a [u8];
 
-/// The show file of some instructions, from an origin on: of version 1 up to 1,000 of them, of version 2 above. More than 8,000 make a file that
-/// is refused with 14.
+/// The bytes of each record in a file: those of its version, where it has one.
+pub(crate) fn record_length(file: &[u8]) -> usize {
+    match file.get(FSQ_HEADER_VERSION_AT..FSQ_HEADER_VERSION_AT + 2) {
+        Some(version) if version == FSQ_REPEAT_VERSION.to_le_bytes() => FSQ_REPEAT_RECORD_LENGTH,
+        _ => FSQ_RECORD_LENGTH,
+    }
+}
+
+/// The show file of some instructions, from an origin on: of version 3 where one of them has a repeat, else of version 1 up to 1,000 of them and of
+/// version 2 above. More than 8,000 make a file that is refused with 14.
 ///
 /// ```
-/// use fsq::{show_file, Instruction, Operation};
+/// use fsq::{show_file, Instruction, Operation, Repeat};
 ///
 /// // REFERENCE 8: the mark, version 1, origin 256, one record of 56 bytes.
 /// let file = show_file(256, &[Instruction::none(Operation::AAM)]);
 /// assert_eq!(file[..9], *b"FSQ\x01\x00\x00\x01\x01\x00");
 /// assert_eq!(file.len(), 9 + 56);
+///
+/// // With a repeat version 3, and all records of 57 bytes.
+/// let file = show_file(256, &[Instruction::none(Operation::AAM), Instruction::none(Operation::MOVSB).repeated(Repeat::Rep)]);
+/// assert_eq!(file[..9], *b"FSQ\x03\x00\x00\x01\x02\x00");
+/// assert_eq!(file.len(), 9 + 2 * 57);
 /// ```
 #[cfg(feature = "alloc")]
 pub fn show_file(origin: u16, instructions: &[Instruction]) -> Vec<u8> {
     let count = u16::try_from(instructions.len()).unwrap_or(u16::MAX);
-    let version = if count <= FSQ_SHORT_RECORDS { FSQ_FILE_VERSION } else { FSQ_LONG_VERSION };
+    let repeats = instructions.iter().any(|instruction| instruction.repeat != FSQ_REPEAT_NONE);
+    let version = match repeats {
+        true => FSQ_REPEAT_VERSION,
+        false if count <= FSQ_SHORT_RECORDS => FSQ_FILE_VERSION,
+        false => FSQ_LONG_VERSION,
+    };
     let mut file = b"FSQ".to_vec();
     file.extend(version.to_le_bytes());
     file.extend(origin.to_le_bytes());
     file.extend(count.to_le_bytes());
     for instruction in instructions {
-        file.extend(instruction.to_record());
+        match repeats {
+            true => file.extend(instruction.to_repeat_record()),
+            false => file.extend(instruction.to_record()),
+        }
     }
     file
 }
@@ -67,7 +90,7 @@ pub fn show_file(origin: u16, instructions: &[Instruction]) -> Vec<u8> {
 /// ```
 #[cfg(feature = "alloc")]
 pub fn load(file: &[u8]) -> Result<Vec<u8>, Refusal> {
-    // A record has at most seven bytes.
+    // A record's string has at most seven bytes, and none of a file's records is shorter than 56.
     let mut image = vec![0; file.len() / FSQ_RECORD_LENGTH * FSQ_STRING_LENGTH];
     let length = library::load(file, &mut image)?;
     image.truncate(length);
@@ -137,7 +160,7 @@ impl<'a> Show<'a> {
         u16::from_le_bytes([self.file[at], self.file[at + 1]])
     }
 
-    /// Its version: 1, or 2 of more than 1,000 records.
+    /// Its version: 1, 2 of more than 1,000 records, or 3 of records with a repeat.
     pub fn version(&self) -> u16 {
         self.field(FSQ_HEADER_VERSION_AT)
     }
@@ -163,9 +186,14 @@ impl<'a> Show<'a> {
         &self.image
     }
 
-    /// Its records in order. None is encoded a second time: the image is cut by the reader, to which the bytes of an accepted record read whole.
+    /// Its records in order. None is encoded a second time: the image is cut by the reader, to which the bytes of an accepted record read whole; of REP
+    /// and REPNE by themselves it is known that they have one byte, as the reader takes a string operation behind them for theirs.
     pub fn records(&self) -> Records<'_> {
-        Records { records: self.file[FSQ_HEADER_LENGTH..].chunks_exact(FSQ_RECORD_LENGTH), image: self.image(), offset: self.origin() }
+        Records {
+            records: self.file[FSQ_HEADER_LENGTH..].chunks_exact(record_length(self.file)),
+            image: self.image(),
+            offset: self.origin(),
+        }
     }
 }
 
@@ -218,7 +246,9 @@ impl<'a> Iterator for Records<'a> {
     fn next(&mut self) -> Option<Record<'a>> {
         let record = self.records.next()?;
         let offset = self.offset;
-        let length = library::read(self.image, offset).expect("the bytes of an accepted record read")[FSQ_READ_LENGTH_AT];
+        let read = library::read(self.image, offset).expect("the bytes of an accepted record read");
+        // A repeat that is not the record's belongs to REP or REPNE before a string operation.
+        let length = if read[FSQ_READ_REPEAT_AT] == repeat_in(record) { read[FSQ_READ_LENGTH_AT] } else { 1 };
         let (bytes, image) = self.image.split_at(length.into());
         self.image = image;
         self.offset = offset.wrapping_add(length.into());

@@ -1,6 +1,6 @@
 //! The text of instructions and operands, printed and parsed. It stands outside the proofs; [`Instruction`] has its syntax.
 
-use crate::instruction::Instruction;
+use crate::instruction::{Instruction, Repeat};
 use crate::operand::{Base, Jump, Kind, Operand, Register, Segment, Size};
 use crate::operation::Operation;
 use core::fmt;
@@ -176,6 +176,9 @@ impl Operand {
 /// As its section on the text has it. The text is not part of what is proved.
 impl fmt::Display for Instruction {
     fn fmt(&self, f: &mut fmt::Formatter<'_>) -> fmt::Result {
+        if let Some(repeat) = self.repeat() {
+            write!(f, "{} ", repeat.name())?;
+        }
         write!(f, "{}", self.operation)?;
         for (n, operand) in self.operands.iter().enumerate() {
             if n < self.operands().len() {
@@ -193,6 +196,9 @@ impl fmt::Display for Instruction {
         }
         if self.count > 2 || (self.operation, self.count) == (Operation::XLATB, 0) {
             write!(f, " {{count {}}}", self.count)?;
+        }
+        if self.repeat != 0 && self.repeat().is_none() {
+            write!(f, " {{repeat {:02X}}}", self.repeat)?;
         }
         Ok(())
     }
@@ -229,24 +235,16 @@ impl FromStr for Instruction {
     fn from_str(text: &str) -> Result<Instruction, ParseError> {
         let mut cursor = Cursor { text, at: 0 };
         let operation = cursor.operation()?;
-        if cursor.end("").is_ok() {
-            return Ok(match operation {
-                Operation::XLATB => Instruction::one(operation, Operand::memory(Base::BX, 0).word()),
-                _ => Instruction::none(operation),
-            });
-        }
-        let sized = |operand: Operand| match (operation, operand.kind, operand.size) {
-            (Operation::XLATB, Kind::Memory, None) => operand.word(),
-            _ => operand,
+        // REP and REPNE belong to an operation that follows them.
+        let repeat = match operation {
+            Operation::REP => Some(Repeat::Rep),
+            Operation::REPNE => Some(Repeat::Repne),
+            _ => None,
         };
-        let first = sized(cursor.operand()?);
-        if !cursor.take(b',') {
-            cursor.end("a comma or the end")?;
-            return Ok(Instruction::one(operation, first));
+        match repeat.and_then(|_| cursor.operation().ok()) {
+            Some(repeated) => Ok(cursor.instruction(repeated)?.repeated(repeat)),
+            None => cursor.instruction(operation),
         }
-        let second = sized(cursor.operand()?);
-        cursor.end("the end")?;
-        Ok(Instruction::two(operation, first, second))
     }
 }
 
@@ -257,6 +255,28 @@ struct Cursor<'a> {
 }
 
 impl<'a> Cursor<'a> {
+    /// The instruction of an operation, with the operands to the end of the text.
+    fn instruction(&mut self, operation: Operation) -> Result<Instruction, ParseError> {
+        if self.end("").is_ok() {
+            return Ok(match operation {
+                Operation::XLATB => Instruction::one(operation, Operand::memory(Base::BX, 0).word()),
+                _ => Instruction::none(operation),
+            });
+        }
+        let sized = |operand: Operand| match (operation, operand.kind, operand.size) {
+            (Operation::XLATB, Kind::Memory, None) => operand.word(),
+            _ => operand,
+        };
+        let first = sized(self.operand()?);
+        if !self.take(b',') {
+            self.end("a comma or the end")?;
+            return Ok(Instruction::one(operation, first));
+        }
+        let second = sized(self.operand()?);
+        self.end("the end")?;
+        Ok(Instruction::two(operation, first, second))
+    }
+
     fn expected<T>(&self, expected: &'static str) -> Result<T, ParseError> {
         Err(ParseError { at: self.at, expected })
     }

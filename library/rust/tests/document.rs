@@ -191,11 +191,12 @@ fn refusals_of_bytes_and_files() {
     };
     assert_eq!(number(&file), Ok(vec![0x90, 0xF4]));
     assert_eq!(number(b""), Err((12, None, None)));
-    assert_eq!(number(&with(3, 3)), Err((13, None, None)));
+    assert_eq!(number(&with(3, 4)), Err((13, None, None)));
     assert_eq!(number(&with(7, 1)), Err((14, None, None)));
     assert_eq!(number(&with(9 + 56, 99)), Err((15, Some(1), None)));
-    // Document 02, No. 5: two records are on the wrong side of version 2.
+    // Document 02, No. 5: two records are on the wrong side of version 2. No. 11: those of version 3 have 57 bytes.
     assert_eq!(number(&with(3, 2)), Err((14, None, None)));
+    assert_eq!(number(&with(3, 3)), Err((14, None, None)));
     for count in [1000, 1001, 8000] {
         assert_eq!(number(&show_file(0, &vec![Instruction::none(NOP); count])), Ok(vec![0x90; count]));
     }

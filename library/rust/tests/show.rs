@@ -105,10 +105,12 @@ fn the_counts_of_a_version() {
             }
         }
     }
-    for (version, count) in [(0, 0), (3, 0), (3, 1000), (3, 1001), (3, 8000), (3, 8001), (256, 1), (257, 1001), (65535, 2)] {
+    for (version, count) in
+        [(0, 0), (0, 1), (4, 0), (4, 1000), (4, 1001), (4, 8000), (4, 8001), (5, 1), (256, 1), (257, 1001), (259, 1), (65535, 2)]
+    {
         let refusal = load(&nops(version, count, count.into())).unwrap_err();
         assert_eq!((refusal.number(), refusal.found), (13, Some(Found::Version(version))));
-        assert_eq!(refusal.to_string(), format!("refusal 13: the version of the show file is {version}, not 1 or 2"));
+        assert_eq!(refusal.to_string(), format!("refusal 13: the version of the show file is {version}, not 1, 2 or 3"));
     }
 }
 
@@ -198,13 +200,16 @@ fn what_a_refused_file_has() {
     assert_eq!(said(b"FS"), (None, "refusal 12: this is no show file: it does not begin with FSQ".into()));
     let header = "refusal 14: the show file has 8 bytes, and its header alone 9";
     assert_eq!(said(&file[..8]), (Some(Found::HeaderLength(8)), header.into()));
-    assert_eq!(said(&with(3, 3)), (Some(Found::Version(3)), "refusal 13: the version of the show file is 3, not 1 or 2".into()));
+    assert_eq!(said(&with(3, 4)), (Some(Found::Version(4)), "refusal 13: the version of the show file is 4, not 1, 2 or 3".into()));
     let count = "refusal 14: the count of the show file is 3, outside 1001..8000 of version 2";
     assert_eq!(said(&with(3, 2)), (Some(Found::Count { version: 2, count: 3, low: 1001, high: 8000 }), count.into()));
     let length = "refusal 14: the show file has 176 bytes, and by its count 177";
     assert_eq!(said(&file[..176]), (Some(Found::FileLength { length: 176, expected: 177 }), length.into()));
+    // Document 02, No. 11: version 3 takes the count, and asks for 57 bytes a record.
+    let length = "refusal 14: the show file has 177 bytes, and by its count 180";
+    assert_eq!(said(&with(3, 3)), (Some(Found::FileLength { length: 177, expected: 180 }), length.into()));
     let code = "refusal 15 of record 1: jump kind 4, at byte 37 of the record, is outside 0..3";
-    assert_eq!(said(&with(9 + 56 + 37, 4)), (Some(Found::Code { at: 37, value: 4, high: 3 }), code.into()));
+    assert_eq!(said(&with(9 + 56 + 37, 4)), (Some(Found::Code { name: "jump kind", at: 37, value: 4, high: 3 }), code.into()));
 }
 
 /// Each code of REFERENCE 8 one above its highest: 15, the same for a record and for its instruction.
@@ -234,11 +239,12 @@ fn what_a_refused_record_has() {
     }
     for length in [0, 55] {
         let refusal = encode_record(&record[..length], 0).unwrap_err();
-        assert_eq!(refusal.to_string(), format!("refusal 14: the record has {length} bytes, not 56"));
+        assert_eq!(refusal.to_string(), format!("refusal 14: the record has {length} bytes, not 56 or 57"));
         assert_eq!(Instruction::from_record(&record[..length]), Err(refusal));
     }
-    let long = [0; 57];
-    assert_eq!(encode_record(&long, 0).unwrap_err().found, Some(Found::RecordLength(57)));
+    let long = [0; 58];
+    assert_eq!(encode_record(&long, 0).unwrap_err().found, Some(Found::RecordLength(58)));
+    assert_eq!(Instruction::from_record(&long).unwrap_err().found, Some(Found::RecordLength(58)));
 }
 
 /// A refusal is an error of `?`.

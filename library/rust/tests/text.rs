@@ -282,10 +282,13 @@ fn every_record_keeps_the_promise() {
                 record[at + [2, 5, 6, 7, 11][next(5) as usize]] = next(10) as u8;
             }
         }
-        let instruction = Instruction::from_record(&record).unwrap();
-        assert_eq!(instruction.to_record(), record);
+        // A record with a repeat has it behind the count, also one that is none.
+        let repeat = [0, 0, 0, 0, 0xF2, 0xF3, 0xF3, 0xF0][next(8) as usize];
+        let packed = |record: &[u8]| if repeat == 0 { record.to_vec() } else { [&record[..2], &[repeat], &record[2..]].concat() };
+        let instruction = Instruction::from_record(&packed(&record)).unwrap();
+        assert_eq!(instruction.to_record(), packed(&record));
         let text = instruction.to_string();
-        assert_eq!(*texts.entry(text.clone()).or_insert(record), record, "{text}");
+        assert_eq!(*texts.entry(text.clone()).or_insert(packed(&record)), packed(&record), "{text}");
         if text.contains('{') {
             assert!(text.parse::<Instruction>().is_err(), "{text}");
             braces += 1;
@@ -295,10 +298,10 @@ fn every_record_keeps_the_promise() {
         }
         // The text does not have the spans.
         record[15..19].copy_from_slice(&[1; 4]);
-        let moved = Instruction::from_record(&record).unwrap();
+        let moved = Instruction::from_record(&packed(&record)).unwrap();
         record[25..33].copy_from_slice(&[7; 8]);
         record[2..10].copy_from_slice(&[9; 8]);
-        assert_eq!(Instruction::from_record(&record).unwrap().to_string(), moved.to_string());
+        assert_eq!(Instruction::from_record(&packed(&record)).unwrap().to_string(), moved.to_string());
     }
     assert!(parsed > 10_000 && braces > 1_000, "{parsed} parsed, {braces} with braces");
 }
@@ -306,7 +309,8 @@ fn every_record_keeps_the_promise() {
 /// Texts of no meaning get an answer.
 #[test]
 fn any_text() {
-    let pieces = ["MOV", "JMP ", "AX", "[", "]", "BX", "+", "-", "ES", ":", ",", " ", "0x", "19", "word ", "far ", "{", "é", "\t", "\0"];
+    let pieces =
+        ["MOV", "JMP ", "REP ", "AX", "[", "]", "BX", "+", "-", "ES", ":", ",", " ", "0x", "19", "word ", "far ", "{", "é", "\t", "\0"];
     let mut state = 1u64;
     for _ in 0..50_000 {
         let mut text = String::from("MOV ");

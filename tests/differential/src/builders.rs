@@ -50,7 +50,7 @@ module _ (s : Span) where
   }
 
   abbrev made : Operation → ℕ → OperandData → OperandData → InstructionData
-  made op count a b = record { operation = op; «num_opers» = count; opers = a ∷ b ∷ []; «opers_span» = s }
+  made op count a b = record { operation = op; «num_opers» = count; repeat = 0; opers = a ∷ b ∷ []; «opers_span» = s }
 
   record Rows : Type 0 where";
 

@@ -3,6 +3,8 @@
 #include <stdlib.h>
 #include <string.h>
 
+enum { REPNE = 0xF2, REP = 0xF3, MOVSB = 0xA4, NOP = 0x90 };
+
 extern __typeof__(fsq_encode) right_fsq_encode;
 extern __typeof__(fsq_read) right_fsq_read;
 extern __typeof__(fsq_list) right_fsq_list;
@@ -28,6 +30,34 @@ uint8_t fsq_encode(const uint8_t *rec, size_t n, uint16_t offset, uint8_t *out, 
     // EB's distance from offset + 3, as if it were as long as E9
     if (fault("short-distance") && number == 0 && out[0] == 0xEB)
         out[1] -= 1;
+    // the repeat of a record: the other one, left out, behind the operation, refused where it is 0
+    if (n == FSQ_REPEAT_RECORD_LENGTH && number == 0 && rec[FSQ_REPEAT_AT] != 0) {
+        uint8_t operation = out[1];
+        if (fault("repne-for-rep"))
+            out[0] = REPNE;
+        if (fault("repeat-not-written") || fault("repeat-behind"))
+            out[0] = operation;
+        if (fault("repeat-behind"))
+            out[1] = rec[FSQ_REPEAT_AT];
+        if (fault("repeat-not-written"))
+            report[FSQ_REPORT_LENGTH_AT] = 1;
+    }
+    if (fault("repeat-0-refused") && n == FSQ_REPEAT_RECORD_LENGTH && rec[FSQ_REPEAT_AT] == 0)
+        return FSQ_WRONG_LENGTH;
+    return number;
+}
+
+static int is_repeat(uint8_t byte) {
+    return byte == REPNE || byte == REP;
+}
+
+// What stands behind so many bytes, read with those: its length and the repeat are the whole string's.
+static uint8_t read_behind(size_t skipped, uint8_t repeat, const uint8_t *bytes, size_t n, uint16_t offset, uint8_t *out, size_t m) {
+    uint8_t number = right_fsq_read(bytes + skipped, n - skipped, offset, out, m);
+    if (number == 0) {
+        out[FSQ_READ_LENGTH_AT] += (uint8_t) skipped;
+        out[FSQ_READ_REPEAT_AT] = repeat;
+    }
     return number;
 }
 
@@ -56,6 +86,29 @@ uint8_t fsq_read(const uint8_t *bytes, size_t n, uint16_t offset, uint8_t *out, 
     // a byte not asked for
     if (fault("asks-more") && n == 1 && bytes[0] == 0x40)
         return FSQ_NOT_COMPLETE;
+    // a repeat: not counted, the other one, its string operation not looked at, that of REPNE but before CMPS and SCAS, as the SDM names it
+    if (fault("repeat-not-counted") && number == 0)
+        out[FSQ_READ_REPEAT_AT] = 0;
+    if (fault("repne-read-as-rep") && number == 0 && out[FSQ_READ_REPEAT_AT] == REPNE)
+        out[FSQ_READ_REPEAT_AT] = REP;
+    if (fault("rep-alone") && n > 1 && bytes[0] == REP)
+        return right_fsq_read(bytes, 1, offset, out, m);
+    if (fault("repne-movsb-alone") && n > 1 && bytes[0] == REPNE && bytes[1] == MOVSB)
+        return right_fsq_read(bytes, 1, offset, out, m);
+    // another operation behind it, a second repeat or a segment prefix between or before, taken with it
+    if (fault("rep-nop") && n > 1 && bytes[0] == REP && bytes[1] == NOP)
+        return read_behind(1, REP, bytes, n, offset, out, m);
+    if (fault("repne-nop-as-nop") && n > 1 && bytes[0] == REPNE && bytes[1] == NOP)
+        return read_behind(1, 0, bytes, n, offset, out, m);
+    if (fault("rep-rep-movsb") && n > 2 && bytes[0] == REP && bytes[1] == REP && bytes[2] == MOVSB)
+        return read_behind(2, REP, bytes, n, offset, out, m);
+    if (fault("rep-es-movsb") && n > 2 && bytes[0] == REP && bytes[1] == 0x26 && bytes[2] == MOVSB)
+        return read_behind(2, REP, bytes, n, offset, out, m);
+    if (fault("es-rep-movsb") && n > 2 && bytes[0] == 0x26 && is_repeat(bytes[1]) && bytes[2] == MOVSB)
+        return read_behind(2, bytes[1], bytes, n, offset, out, m);
+    // a byte behind it asked for
+    if (fault("rep-asks-more") && n == 1 && bytes[0] == REP)
+        return FSQ_NOT_COMPLETE;
     return number;
 }
 
@@ -78,5 +131,22 @@ uint8_t fsq_list(const uint8_t *rec, size_t n, uint16_t offset, uint8_t *out, si
         memcpy(out + FSQ_ENTRY_LENGTH, entry, FSQ_ENTRY_LENGTH);
         report[0] = 2;
     }
+    // A4 in the list of REP MOVSB, F3 A4 in MOVSB's and in REP's, F2 A4 for F3 A4
+    static const uint8_t rep_movsb[FSQ_ENTRY_LENGTH] = { 2, REP, MOVSB }, movsb[FSQ_ENTRY_LENGTH] = { 1, MOVSB };
+    int is_rep_movsb = number == 0 && out[0] == 2 && out[1] == REP && out[2] == MOVSB;
+    if (fault("movsb-in-rep-movsb") && is_rep_movsb) {
+        memcpy(out, movsb, FSQ_ENTRY_LENGTH);
+        memcpy(out + FSQ_ENTRY_LENGTH, rep_movsb, FSQ_ENTRY_LENGTH);
+        report[0] = 2;
+    }
+    if (fault("repne-listed-for-rep") && is_rep_movsb)
+        out[1] = REPNE;
+    if ((fault("rep-movsb-in-movsb") && number == 0 && out[1] == MOVSB) || (fault("rep-movsb-in-rep") && number == 0 && out[0] == 1 && out[1] == REP)) {
+        memcpy(out + FSQ_ENTRY_LENGTH, rep_movsb, FSQ_ENTRY_LENGTH);
+        report[0] = 2;
+    }
+    // 57 bytes not taken
+    if (fault("repeat-not-listed") && n == FSQ_REPEAT_RECORD_LENGTH)
+        return FSQ_WRONG_LENGTH;
     return number;
 }

@@ -1,8 +1,8 @@
-//! The reader and the lister behind their C functions.
+//! The encoder, the reader and the lister behind their C functions.
 
 use crate::bindings::*;
 use crate::meaning::{Meaning, Operand};
-use crate::records::Packed;
+use crate::records::Record;
 
 /// What our table reads at the front of the bytes.
 #[derive(Clone, Copy, PartialEq, Eq, Debug)]
@@ -19,7 +19,7 @@ pub fn read(bytes: &[u8], offset: u16) -> Read {
     match unsafe { fsq_read(bytes.as_ptr(), bytes.len(), offset, out.as_mut_ptr(), out.len()) } {
         FSQ_DONE => {
             let operands = [operand(&out[FSQ_READ_FIRST_AT..]), operand(&out[FSQ_READ_SECOND_AT..])];
-            let meaning = Meaning { operation: out[FSQ_READ_OPERATION_AT], width: out[FSQ_READ_WIDTH_AT], operands };
+            let meaning = Meaning { operation: out[FSQ_READ_OPERATION_AT], repeat: out[FSQ_READ_REPEAT_AT], width: out[FSQ_READ_WIDTH_AT], operands };
             Read::Whole(out[FSQ_READ_LENGTH_AT] as usize, meaning)
         }
         FSQ_NOT_AN_INSTRUCTION => Read::Nothing,
@@ -45,8 +45,31 @@ fn operand(field: &[u8]) -> Operand {
     }
 }
 
+/// The record's 57 bytes with this repeat.
+pub fn with_repeat(record: &Record, repeat: u8) -> Vec<u8> {
+    let mut packed = record.pack().to_vec();
+    packed.insert(FSQ_REPEAT_AT, repeat);
+    packed
+}
+
+/// The record's 56 bytes, or where there is a repeat its 57.
+pub fn packed(record: &Record, repeat: u8) -> Vec<u8> {
+    if repeat == 0 { record.pack().to_vec() } else { with_repeat(record, repeat) }
+}
+
+/// A record's bytes, or the refusal.
+pub fn encode(record: &[u8], offset: u16) -> Result<Vec<u8>, u8> {
+    let mut out = [0; FSQ_STRING_LENGTH];
+    let mut report = [0; FSQ_REPORT_LENGTH];
+    let (n, m) = (out.len(), report.len());
+    match unsafe { fsq_encode(record.as_ptr(), record.len(), offset, out.as_mut_ptr(), n, report.as_mut_ptr(), m) } {
+        FSQ_DONE => Ok(out[..report[FSQ_REPORT_LENGTH_AT] as usize].to_vec()),
+        number => Err(number),
+    }
+}
+
 /// The strings of a record's list, or the refusal.
-pub fn list(record: &Packed, offset: u16) -> Result<Vec<Vec<u8>>, u8> {
+pub fn list(record: &[u8], offset: u16) -> Result<Vec<Vec<u8>>, u8> {
     let mut out = [0; FSQ_LIST_LENGTH];
     let mut report = [0; FSQ_REPORT_LENGTH];
     let (n, m) = (out.len(), report.len());

@@ -91,7 +91,7 @@ fn compare(name: &str, mut read: Vec<(Meaning, Short)>, used: [u64; CONVENTIONS.
         alone += (group.len() == 1) as u64;
         let meaning = &group[0].0;
         let record = record_of(meaning);
-        let packed = record.pack();
+        let packed = library::packed(&record, meaning.repeat);
         let list = match library::list(&packed, OFFSET) {
             Ok(list) => list,
             Err(number) => {
@@ -131,10 +131,11 @@ fn count(used: &mut [u64; CONVENTIONS.len()], bits: u8) {
     }
 }
 
-/// The strings that our table reads whole, without those that the disassembler joins to what follows.
+/// The strings that our table reads whole, without the bytes that the disassembler joins to what follows.
 fn read_whole(length: usize, joins: &[u8], visit: &mut dyn FnMut(&[u8])) {
     strings::all(length, &mut |string| {
-        if matches!(library::read(string, OFFSET), Read::Whole(l, _) if l == length) && !joins.contains(&string[0]) {
+        let joined = length == 1 && joins.contains(&string[0]);
+        if matches!(library::read(string, OFFSET), Read::Whole(l, _) if l == length) && !joined {
             visit(string)
         }
     });
@@ -219,18 +220,53 @@ fn longer(of_each: u64) -> bool {
 fn alone() -> bool {
     let mut failures = Failures::default();
     for (operation, byte) in [(op::LOCK, 0xF0), (op::REPNE, 0xF2), (op::REP, 0xF3)] {
-        let none = shapes::immediate(UNSTATED, NONE, 0, 0);
-        let list = library::list(&generate::record(operation, 0, none, none).pack(), OFFSET);
-        if list != Ok(vec![vec![byte]]) {
-            failures.add(&format!("{}: list {list:?}", records::NAMES[operation as usize]));
+        let record = without_operands(operation);
+        for list in [library::list(&record.pack(), OFFSET), library::list(&library::with_repeat(&record, 0), OFFSET)] {
+            if list != Ok(vec![vec![byte]]) {
+                failures.add(&format!("{}: list {list:?}", records::NAMES[operation as usize]));
+            }
         }
     }
     println!("lists: F0, F2 and F3 are left out above, as the disassemblers join them to what follows; each list is that byte alone, {} unexplained", failures.count());
     failures.count() == 0
 }
 
+/// A string operation's list is its one byte, and behind a repeat those two: the string that Zydis reads so.
+fn repeated() -> bool {
+    let zydis = Zydis::new();
+    let mut failures = Failures::default();
+    let mut lists = 0;
+    for operation in op::MOVSB..=op::STOSW {
+        let record = without_operands(operation);
+        let string = match library::list(&record.pack(), OFFSET) {
+            Ok(list) if list.len() == 1 => list[0].clone(),
+            other => {
+                failures.add(&format!("{}: list {other:?}", records::NAMES[operation as usize]));
+                continue;
+            }
+        };
+        for repeat in [0, 0xF2, 0xF3] {
+            lists += 1;
+            let expected: Vec<u8> = [repeat].into_iter().filter(|b| *b != 0).chain(string.iter().copied()).collect();
+            let list = library::list(&library::with_repeat(&record, repeat), OFFSET);
+            let theirs = zydis.read(&expected).ok().filter(|d| d.length as usize == expected.len()).and_then(|d| zydis.meaning(&d, OFFSET)).map(|(m, _)| m);
+            let same = theirs.is_some_and(|m| (m.operation, m.repeat) == (operation, repeat));
+            if list.as_deref() != Ok(&[expected.clone()]) || !same {
+                failures.add(&format!("{} behind {repeat:02X}: list {list:?}, {} is {theirs:?}", records::NAMES[operation as usize], hex(&expected)));
+            }
+        }
+    }
+    println!("lists: {lists} of string operations, by 57 bytes with repeat 0, F2 and F3; each is the one string that Zydis reads so, {} unexplained", failures.count());
+    failures.count() == 0 && lists == 3 * 10
+}
+
+fn without_operands(operation: u8) -> Record {
+    let none = shapes::immediate(UNSTATED, NONE, 0, 0);
+    generate::record(operation, 0, none, none)
+}
+
 pub fn run(depth: Depth) -> bool {
-    let mut fine = by_zydis() & alone() & longer(if depth == Depth::Full { 8 } else { 1 });
+    let mut fine = by_zydis() & alone() & repeated() & longer(if depth == Depth::Full { 8 } else { 1 });
     if depth == Depth::Full {
         fine &= by_ndisasm();
     }

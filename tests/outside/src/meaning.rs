@@ -1,4 +1,4 @@
-//! What an instruction means, in document 01's terms: operation, width, used operands. A disassembler's answer is brought into this shape by the
+//! What an instruction means, in document 01's terms: operation, width, used operands; and the repeat, which document 02 adds (No. 11). A disassembler's answer is brought into this shape by the
 //! conventions below, each counted where it changes something, so that nothing of 'same instruction' is taken on faith.
 
 use crate::records::{op, BYTE, NAMES, UNSTATED, WORD};
@@ -20,6 +20,8 @@ pub enum Operand {
 #[derive(Clone, Copy, PartialEq, Eq, PartialOrd, Ord, Hash, Debug)]
 pub struct Meaning {
     pub operation: u8,
+    /// F2 or F3 before a string operation, else 0
+    pub repeat: u8,
     pub width: u8,
     pub operands: [Operand; 2],
 }
@@ -82,6 +84,16 @@ pub fn is_shift(operation: u8) -> bool {
     (op::SHL..=op::RCR).contains(&operation)
 }
 
+/// The ten that take a repeat.
+pub fn is_string(operation: u8) -> bool {
+    (op::MOVSB..=op::STOSW).contains(&operation)
+}
+
+/// The same behind a repeat, or nothing where what stands there is no string operation.
+pub fn repeated((meaning, used): Taken, repeat: u8) -> Option<Taken> {
+    (repeat == 0 || is_string(meaning.operation)).then_some((Meaning { repeat, ..meaning }, used))
+}
+
 pub fn default_segment(base: u8) -> u8 {
     if matches!(base, 2 | 3 | 6) { 2 } else { 3 }
 }
@@ -111,7 +123,7 @@ pub fn meaning(operation: u8, said: &[Said]) -> Option<Taken> {
             Said::Far(offset, segment) => Operand::Far(offset, segment),
         };
     }
-    let mut result = Meaning { operation, width, operands };
+    let mut result = Meaning { operation, repeat: 0, width, operands };
     if operation == op::XCHG {
         let [a, b] = operands;
         let exchanged = match (a, b) {
@@ -124,7 +136,7 @@ pub fn meaning(operation: u8, said: &[Said]) -> Option<Taken> {
             used |= XCHG_ORDER;
         }
         if width == WORD && result.operands == [Operand::Register(0); 2] {
-            result = Meaning { operation: op::NOP, width: UNSTATED, operands: [Operand::None; 2] };
+            result = Meaning { operation: op::NOP, repeat: 0, width: UNSTATED, operands: [Operand::None; 2] };
             used |= XCHG_AX_AX;
         }
     }

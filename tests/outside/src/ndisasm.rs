@@ -125,6 +125,15 @@ fn memory(inside: &str, size: u8) -> Option<Said> {
 
 /// The meaning of a line of text, or nothing where it has none in document 01's terms.
 pub fn meaning(text: &str) -> Option<Taken> {
+    match text.split_once(' ') {
+        Some(("rep" | "repe", rest)) => meaning::repeated(plain(rest)?, 0xF3),
+        Some(("repne", rest)) => meaning::repeated(plain(rest)?, 0xF2),
+        _ => plain(text),
+    }
+}
+
+/// The same of a line without a repeat.
+fn plain(text: &str) -> Option<Taken> {
     let (prefix, text) = match text.split_once(' ') {
         // only D7 has its prefix before it: the others show it at the memory operand
         Some((segment, "xlatb")) => (Some(place(&SEGMENTS, segment)?), "xlatb"),

@@ -2,8 +2,8 @@
 
 use crate::classes::{self, CLASSES, JOINED_BY_NDISASM, JOINED_BY_ZYDIS};
 use crate::library::{self, Read};
-use crate::meaning::{Taken, CONVENTIONS};
-use crate::records::{hex, op};
+use crate::meaning::{is_string, Meaning, Operand, Taken, CONVENTIONS};
+use crate::records::{hex, op, UNSTATED};
 use crate::strings;
 use crate::zydis::Zydis;
 use crate::{ndisasm, Depth, Failures};
@@ -54,15 +54,17 @@ impl Account {
         let whole = self.whole;
         let counted = |length: usize| (!whole || length == string.len()) as u64;
         match (ours, theirs) {
-            (Read::Whole(1, meaning), _) if self.joins.contains(&string[0]) => {
+            (Read::Whole(1, meaning), theirs) if self.joins.contains(&string[0]) => {
                 let expected = match string[0] {
                     0xF0 => op::LOCK,
                     0xF2 => op::REPNE,
                     0xF3 => op::REP,
                     _ => op::WAIT,
                 };
-                if meaning.operation != expected {
-                    self.fail(string, offset, format!("ours {meaning:?}"));
+                // F2 or F3 right before a string operation belongs to it here too
+                let repeats = theirs.filter(|t| t.length == 2 && t.taken.is_some_and(|(m, _)| m.repeat != 0));
+                if meaning.operation != expected || meaning.repeat != 0 || repeats.is_some() {
+                    self.fail(string, offset, format!("ours {meaning:?}; theirs {}", repeats.map_or("joined", |_| "a string operation and its repeat")));
                 }
                 self.joined += counted(1);
             }
@@ -75,6 +77,10 @@ impl Account {
                 let theirs = theirs.unwrap();
                 if let Some(class) = classes::of(&string[..length], theirs.memory) {
                     self.fail(string, offset, format!("ours reads what {} excludes", CLASSES[class].name));
+                }
+                // F3 F3 A4 and F3 26 A4 are joined there too
+                if meaning.repeat != 0 && length != 2 {
+                    self.fail(string, offset, "ours reads a repeat that does not stand right before its operation".to_string());
                 }
                 let n = counted(length);
                 self.same += n;
@@ -157,6 +163,31 @@ fn by_zydis(depth: Depth, met: &mut [u64; CLASSES.len()]) -> bool {
     fine
 }
 
+/// F2 and F3, alone and before each byte: one with a string operation, else by itself. What is a string operation Zydis says of that byte.
+fn repeats() -> bool {
+    let zydis = Zydis::new();
+    let mut failures = Failures::default();
+    let (mut whole, mut alone) = (0, 0);
+    for (repeat, operation) in [(0xF2, op::REPNE), (0xF3, op::REP)] {
+        let own = Meaning { operation, repeat: 0, width: UNSTATED, operands: [Operand::None; 2] };
+        for behind in [None].into_iter().chain((0..=255u8).map(Some)) {
+            let string: Vec<u8> = [repeat].into_iter().chain(behind).collect();
+            let operation = zydis.read(&string[1..]).ok().and_then(|d| zydis.meaning(&d, 0)).map(|(m, _)| m).filter(|m| is_string(m.operation));
+            let (expected, count) = match operation {
+                Some(meaning) => (Read::Whole(2, Meaning { repeat, ..meaning }), &mut whole),
+                None => (Read::Whole(1, own), &mut alone),
+            };
+            *count += 1;
+            let ours = library::read(&string, 0);
+            if ours != expected {
+                failures.add(&format!("{}: ours {ours:?}, expected {expected:?}", hex(&string)));
+            }
+        }
+    }
+    println!("repeats: F2 and F3 alone and before each byte, {whole} read with a string operation, {alone} by themselves, {} unexplained", failures.count());
+    failures.count() == 0 && (whole, alone) == (2 * 10, 2 * (1 + 256 - 10))
+}
+
 fn by_ndisasm(depth: Depth, met: &mut [u64; CLASSES.len()]) -> bool {
     let mut account = Account::new("ndisasm", JOINED_BY_NDISASM, true);
     // The heads of two bytes that ndisasm reads no instruction in: only behind them a third byte belongs to the first instruction.
@@ -218,7 +249,7 @@ fn ask(strings: &[&[u8]], account: &mut Account, told: &mut dyn FnMut(&[u8], Opt
 
 pub fn run(depth: Depth) -> bool {
     let mut met = [0; CLASSES.len()];
-    let mut fine = by_zydis(depth, &mut met) & by_ndisasm(depth, &mut met);
+    let mut fine = by_zydis(depth, &mut met) & by_ndisasm(depth, &mut met) & repeats();
     for (class, _) in CLASSES.iter().zip(met).filter(|(_, count)| *count == 0) {
         println!("NOT MET: class {}", class.name);
         fine = false;

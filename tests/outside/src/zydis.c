@@ -22,7 +22,7 @@ struct decoded {
     uint8_t memory_segment; // of the first memory operand, also of one that is not written (XLAT); 255 for none
     uint8_t prefix;         // the last segment prefix, 0 for none
     uint8_t more;           // length 0: the bytes are the front of an instruction
-    uint8_t padding;
+    uint8_t repeat;         // F2 or F3 where Zydis says REPNE, REP or REPE, else 0
 };
 
 static uint8_t base_of(const ZydisDecodedOperandMem *m) {
@@ -89,6 +89,7 @@ void zydis_read(const uint8_t *bytes, size_t length, struct decoded *out) {
     out->length = instruction.length;
     out->mnemonic = (uint16_t) instruction.mnemonic;
     out->count = instruction.operand_count_visible;
+    out->repeat = instruction.attributes & ZYDIS_ATTRIB_HAS_REPNE ? 0xF2 : instruction.attributes & (ZYDIS_ATTRIB_HAS_REP | ZYDIS_ATTRIB_HAS_REPE) ? 0xF3 : 0;
     for (uint8_t i = 0; i < instruction.operand_count_visible && i < 3; i++)
         take(&out->operands[i], &operands[i]);
     for (uint8_t i = instruction.operand_count; i-- > 0;)

@@ -26,7 +26,7 @@ pub struct Decoded {
     memory_segment: u8,
     prefix: u8,
     more: u8,
-    padding: u8,
+    repeat: u8,
 }
 
 // zydis.c's kinds.
@@ -129,6 +129,7 @@ impl Zydis {
             }
         }
         // Zydis names the segment in effect itself, so that a prefix for the default one is no convention of ours.
-        meaning::meaning(operation, &said).map(|(m, also)| (m, used | also & !meaning::DEFAULT_SEGMENT))
+        let (meaning, also) = meaning::repeated(meaning::meaning(operation, &said)?, decoded.repeat)?;
+        Some((meaning, used | also & !meaning::DEFAULT_SEGMENT))
     }
 }

@@ -8,8 +8,8 @@ question-of-spec =
     (tie.spec
     (λ c. search needs) (λ c. search needs) (λ c. search needs) (λ c. search needs) (λ c. search needs) (λ c. search needs) (λ c. search needs)
     (λ c. search needs) (λ c. search needs) (λ c. search needs) (λ c. search needs) (λ c. search needs) (λ c. search needs) (λ c. search needs)
-    (λ c. search needs) (λ c. search needs)
-    (λ c. rw (c .before .before .enum-told4 .given .1, c .enum-told5 .given .1))
-    (λ c. rw (c .before .before .enum-told4 .given .1, c .enum-told6 .given .1))
-    (λ c. rw (c .before .before .enum-told4 .given .1, c .enum-told7 .given .1))
+    (λ c. search needs) (λ c. search needs) (λ c. search needs) (λ c. search needs)
+    (λ c. rw (c .before .before .enum-told5 .given .1, c .enum-told6 .given .1))
+    (λ c. rw (c .before .before .enum-told5 .given .1, c .enum-told7 .given .1))
+    (λ c. rw (c .before .before .enum-told5 .given .1, c .enum-told8 .given .1))
     (λ c. search needs) (λ c. search needs) (λ c. search needs) (λ c. search needs) (λ c. search needs))

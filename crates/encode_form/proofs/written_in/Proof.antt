@@ -5,7 +5,7 @@ use Rattle.encode_form.proofs.written_in.Tie as tie
 
 returns : tie.Need-returns
 returns c =
-    let s = c .before .before .before .before .before .before .opcode-start .ensures .0 in
+    let s = c .before .before .before .before .before .before .opcode-place .ensures .0 in
     let g = c .before .before .before .before .before .before .before .before .group-of .ensures in
     rw (c .limits-of .ensures, c .before .operands-of .ensures, c .before .before .before .digit-of .ensures, g, s, add-one)
 

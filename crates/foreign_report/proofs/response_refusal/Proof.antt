@@ -35,6 +35,8 @@ response-refusal-spec =
     (λ c κs. search needs)
     (λ c. search needs)
     (λ c κs. search needs)
+    (λ c. search needs)
+    (λ c κs. search needs)
     (λ c. rw (c .before .before .e .given .1) (c .response-span .ensures))
     (λ c. rw (c .before .before .e2 .given .1) (c .response-span2 .ensures))
     (λ c. rw (c .before .before .e3 .given .1) (c .response-span3 .ensures))
@@ -43,4 +45,5 @@ response-refusal-spec =
     returns-6
     (λ c. rw (c .before .before .e7 .given .1) (c .response-span5 .ensures))
     (λ c. rw (c .before .before .e8 .given .1) (c .response-span6 .ensures))
-    (λ c. rw (c .before .before .e9 .given .1) (c .response-span7 .ensures)))
+    (λ c. rw (c .before .before .e9 .given .1) (c .response-span7 .ensures))
+    (λ c. rw (c .before .before .e10 .given .1) (c .response-span8 .ensures)))

@@ -4,7 +4,7 @@ ghost use lib.IntN.{pos, negsuc};
 ghost use Rattle.mrc_compiler.specs.Values.{within};
 ghost use Rattle.mrc_compiler.specs.Required.{requiredByte, requiredSignedByte, requiredWord, requiredSignedWord};
 ghost use Rattle.mrc_compiler.specs.Refusals.{spanOf};
-ghost use Rattle.mrc_compiler.specs.Builders.{isSpecified, isUnspecified, prefixFor, prefixOr0, sizeFrom, immediateOperand, registerOperand, segmentOperand, directOperand, indirectOperand, farOperand, isDirect, isDirectAddress, noOperands, oneOperand, twoOperands};
+ghost use Rattle.mrc_compiler.specs.Builders.{isSpecified, isUnspecified, prefixFor, prefixOr0, sizeFrom, immediateOperand, registerOperand, segmentOperand, directOperand, indirectOperand, farOperand, isDirect, isDirectAddress, noOperands, oneOperand, twoOperands, withRepeat};
 
 pub mod generate;
 
@@ -107,7 +107,7 @@ pub fn require_value_is_signed_word(value: i32, span: Span) -> RequiredSignedWor
     }
 }
 
-// The refusals of the encoder. 000 has the first six; the last three are those of questions 2, 1 and 8, which 000 does not ask.
+// The refusals of the encoder. 000 has the first six; the last four are those of questions 2, 1 and 8, which 000 does not ask.
 // Their numbers and values are those of specs/Refusals.
 pub enum EncodeError {
     InvalidOperands(Span),
@@ -118,6 +118,7 @@ pub enum EncodeError {
     RelativeJumpOutOfRange(Span, OperandSize, bool, i32),
     NotSupported(Span),
     NotWellFormed(Span),
+    InvalidRepeat(Span),
     SliceTooShort(Span),
 }
 
@@ -135,6 +136,7 @@ impl EncodeError {
             EncodeError::RelativeJumpOutOfRange(span, _, _, _) => span,
             EncodeError::NotSupported(span) => span,
             EncodeError::NotWellFormed(span) => span,
+            EncodeError::InvalidRepeat(span) => span,
             EncodeError::SliceTooShort(span) => span,
         }
     }
@@ -440,6 +442,10 @@ pub fn operand_size_from_data_size(data_size: OptionDataSize) -> OperandSize
 pub struct InstructionData {
     pub operation: Operation,
     pub num_opers: u8,
+
+    // The byte of REPNE or REP, F2 or F3, before a string operation; 0 means none. 000 has no such field.
+    pub repeat: u8,
+
     pub opers: [OperandData; 2],
     pub opers_span: Span,
 }
@@ -452,6 +458,7 @@ impl InstructionData {
         InstructionData {
             operation: op,
             num_opers: 0,
+            repeat: 0,
             opers: [OperandData::empty(span), OperandData::empty(span)],
             opers_span: span,
         }
@@ -464,6 +471,7 @@ impl InstructionData {
         InstructionData {
             operation: op,
             num_opers: 1,
+            repeat: 0,
             opers: [dst, OperandData::empty(span)],
             opers_span: span,
         }
@@ -481,8 +489,18 @@ impl InstructionData {
         InstructionData {
             operation: op,
             num_opers: 2,
+            repeat: 0,
             opers: [dst, src],
             opers_span: span,
         }
+    }
+
+    // The same instruction with another repeat.
+    pub fn repeated(self, repeat: u8) -> InstructionData
+        ensures { λ r. ⌜ r ≡ withRepeat repeat self ⌝ }
+    {
+        let mut insn = self;
+        insn.repeat = repeat;
+        insn
     }
 }

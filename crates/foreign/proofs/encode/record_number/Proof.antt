@@ -1,5 +1,4 @@
 use Rattle.foreign.specs.EncodeRecord.{recordOf}
-use borrow.Author.Tests.{eq-eqb, ne-eqb}
 use mathlib.Core.Path.{sym, _∙_}
 use borrow.Author.Needs.{needs}
 use Rattle.foreign.proofs.encode.record_number.Statement.{statement}
@@ -10,7 +9,8 @@ unfolding recordOf
 record-number-spec =
     tie.close
     (tie.spec
-    (λ c. rw (ne-eqb _ _ (c .if1 .taken)))
     (λ c κs. search needs)
-    (λ c. rw (eq-eqb _ _ (c .before .before .if1 .left), sym (c .before .codes-known .ensures) ∙ c .if2 .taken))
-    (λ c. rw (eq-eqb _ _ (c .before .before .if1 .left), sym (c .before .codes-known .ensures) ∙ c .if2 .left)))
+    (λ c κs. sym (c .before .is-record .ensures) ∙ c .if1 .taken)
+    (λ c. rw (sym (c .before .before .before .is-record .ensures) ∙ c .before .before .if1 .taken, sym (c .before .codes-known .ensures) ∙ c .if2 .taken))
+    (λ c. rw (sym (c .before .before .before .is-record .ensures) ∙ c .before .before .if1 .taken, sym (c .before .codes-known .ensures) ∙ c .if2 .left))
+    (λ c. rw (sym (c .before .is-record .ensures) ∙ c .if1 .left)))

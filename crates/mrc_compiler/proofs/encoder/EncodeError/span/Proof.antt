@@ -7,7 +7,7 @@ span-spec =
     tie.close
     (tie.spec
     (λ c. search needs) (λ c. search needs) (λ c. search needs) (λ c. search needs) (λ c. search needs)
-    (λ c. search needs) (λ c. search needs) (λ c. search needs) (λ c. search needs)
+    (λ c. search needs) (λ c. search needs) (λ c. search needs) (λ c. search needs) (λ c. search needs)
     (λ c. rw (c .before .self .given .1))
     (λ c. rw (c .before .self2 .given .1))
     (λ c. rw (c .before .self3 .given .1))
@@ -16,4 +16,5 @@ span-spec =
     (λ c. rw (c .before .self6 .given .1))
     (λ c. rw (c .before .self7 .given .1))
     (λ c. rw (c .before .self8 .given .1))
-    (λ c. rw (c .before .self9 .given .1)))
+    (λ c. rw (c .before .self9 .given .1))
+    (λ c. rw (c .before .self10 .given .1)))
