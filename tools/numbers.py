@@ -12,7 +12,7 @@ import bindings
 import operations as scripts
 
 ROOT = pathlib.Path(__file__).resolve().parent.parent
-OPERATIONS, REFUSALS, VERSIONS = 99, 16, 3
+OPERATIONS, REFUSALS, VERSIONS = 99, 19, 3
 failures = []
 
 
@@ -57,8 +57,8 @@ class Text:
 
 
 def snake(name):
-    """InvalidOperands as INVALID_OPERANDS."""
-    return re.sub(r'(?<=[a-z])(?=[A-Z])', '_', name).upper()
+    """InvalidOperands as INVALID_OPERANDS, NotASum as NOT_A_SUM."""
+    return re.sub(r'(?<=[a-z])(?=[A-Z])|(?<=[A-Z])(?=[A-Z][a-z])', '_', name).upper()
 
 
 def compare(what, place, given, expected, prefix=''):
@@ -79,7 +79,9 @@ def source():
         operations='mrc_compiler/src/operations', data='mrc_compiler/src/encoder/mod', ast='mrc_compiler/src/ast', record='show_record/src/lib', file='show_file/src/lib',
         report='foreign_report/src/lib', read='foreign/src/read', encode='foreign/src/encode', load='foreign/src/load', operands='x86/src/operands', reader='reader/src/lib',
         slots='read_slots/src/lib', run='encode_run/src/lib', lister='lister/src/lib', entries='list_entries/src/lib', form='text_form/src/lib', ground='encode_form/src/lib',
-        text='show_text/src/lib', x86='x86/src/lib').items()}
+        text='show_text/src/lib', x86='x86/src/lib', evaluate='foreign/src/evaluate', sum='sum_evaluate/src/lib', answer='sum_text/src/lib',
+        program='fsqsum/src/main').items()}
+    sums = Text('crates/sum_spec/specs/Sums.antt')
     s = {}
 
     def twice(what, text, given, expected):
@@ -103,16 +105,22 @@ def source():
             twice(enum, code['record'], {f'first unknown of {field}': known and int(''.join(known))}, {f'first unknown of {field}': count})
     twice('size', code['operands'], code['operands'].numbers(r'OperandSize::(\w+) => (\d+),', 3, snake), s['size'])
 
-    # Refusals: the encoder's, the loader's, the reader's; then where they cross.
+    # Refusals: the encoder's, the loader's, the reader's, the evaluator's; then where they cross.
     s['answer'] = {'DONE': 0}
     s['answer'] |= code['file'].numbers(r'EncodeError::(\w+)\([_, ]*\) => (\d+),', 10, snake)
     s['answer'] |= {'NOT_AN_INSTRUCTION': code['reader'].number(r'Decoded::Nothing => Refusal::Is\((\d+)\)'), 'NOT_COMPLETE': code['reader'].number(r'Decoded::More => Refusal::Is\((\d+)\)')}
     s['answer'] |= code['file'].numbers(r'LoadError::(\w+)(?:\(_\))? => (\d+),', 4, snake)
+    # The evaluator's have their numbers in a definition; the text of fsqsum and the library have them in code.
+    named = lambda n: {'NoText': 'NOT_A_SUM', 'OutOfRange': 'VALUE_OUT_OF_RANGE'}.get(n, snake(n))
+    s['answer'] |= sums.numbers(r'\nnumbered A\.(\w+) = refused (\d+)', 3, named)
+    printed = code['answer'].numbers(r'Answer::(\w+) => push_refused\(line, (\d+)\),', 3, named)
+    twice('refusal', code['answer'], printed, {name: s['answer'].get(name) for name in printed})
     if len(s['answer']) != REFUSALS + 1:
         wrong(f'the source has {len(s["answer"]) - 1} and not {REFUSALS} refusals')
     crossing = code['report'].numbers(r'EncodeError::(\w+)\(span\) => response_span\((\d+), span\)', 8, snake)
     crossing |= code['report'].numbers(r'EncodeError::(\w+)\(span, .*\) => Response \{\s*number: (\d+),', 2, snake)
     crossing |= code['load'].numbers(r'LoadError::(\w+)(?:\(k\))? => (?:of_record\()?response_alone\((\d+)\)', 4, snake)
+    crossing |= code['evaluate'].numbers(r'Answer::(\w+) => response_alone\((\d+)\),', 3, named)
     crossing |= {'NOT_AN_INSTRUCTION': code['read'].number(r'Decoded::Nothing => (\d+),'), 'NOT_COMPLETE': code['read'].number(r'Decoded::More => (\d+),')}
     twice('refusal', Text('crates/foreign', ''), {'DONE': 0} | crossing, s['answer'])
     record = dict(zip(('UNKNOWN_CODE', 'WRONG_LENGTH'), map(int, code['encode'].part(r'pub fn record_number\(').one(r'\}\s*return (\d+);\s*\}\s*(\d+)$') or ())))
@@ -144,12 +152,17 @@ def source():
     s['version'] = {int(n): (int(fewest), int(highest)) for n, fewest, highest in text.part(r'fn counts_of\(').all(r'(\d+) => Counts::Between\((\d+), (\d+)\),', VERSIONS)}
     repeat = text.part(r'fn record_length\(').number(r'if version == (\d+) \{\s*show_record::LONG_RECORD_LENGTH')
     short, long = sorted(s['version'].keys() - {repeat})
-    s['limit'] = {'MOST_RECORDS': most, 'SHORT_RECORDS': s['version'][short][1], 'MOST_ENTRIES': entries, 'FILE_VERSION': short, 'LONG_VERSION': long, 'REPEAT_VERSION': repeat}
+    s['limit'] = {'MOST_RECORDS': most, 'SHORT_RECORDS': s['version'][short][1], 'MOST_ENTRIES': entries, 'FILE_VERSION': short, 'LONG_VERSION': long, 'REPEAT_VERSION': repeat,
+        'MOST_DEPTH': sums.number(r'\nmostDepth = (\d+)')}
+    for asked in (r'if depth <= (\d+) ', r'sum\(text, 0, (\d+)\)'):
+        twice('limit', code['sum'], {'MOST_DEPTH': code['sum'].number(asked)}, {'MOST_DEPTH': s['limit']['MOST_DEPTH']})
     # Without repeats a count is of one version: so the header says both by SHORT_RECORDS, which is the text programs' limit too.
     twice('version', text, s['version'], {short: (0, s['limit']['SHORT_RECORDS']), long: (s['limit']['SHORT_RECORDS'] + 1, most), repeat: (0, most)})
     s['record bytes'] = {version: values['LONG_RECORD_LENGTH' if version == repeat else 'RECORD_LENGTH'] for version in s['version']}
     s['text'] = code['text'].numbers(r'const (TEXT_RECORDS|MOST_TEXT|MOST_FORMS): \w+ = (\d+);', 3)
     twice('text', code['text'], {'TEXT_RECORDS': s['text'].get('TEXT_RECORDS')}, {'TEXT_RECORDS': s['limit']['SHORT_RECORDS']})
+    s['text']['MOST_ANSWER'] = code['answer'].number(r'pub const MOST_ANSWER: usize = (\d+);')
+    twice('text', code['program'], {'MOST_ANSWER': code['program'].number(r'let mut out = \[0; (\d+)\];')}, {'MOST_ANSWER': s['text']['MOST_ANSWER']})
     header = text.number(r'const HEADER_LENGTH: usize = (\d+);')
     s['length'] = {'RECORD_LENGTH': values['RECORD_LENGTH'], 'REPEAT_RECORD_LENGTH': values['LONG_RECORD_LENGTH'], 'OPERAND_LENGTH': values['OPERAND_LENGTH'], 'HEADER_LENGTH': header,
         'REPORT_LENGTH': code['report'].number(r'if report\.len\(\) < (\d+) '), 'READING_LENGTH': code['read'].number(r'if out\.len\(\) < (\d+) '),
@@ -304,7 +317,9 @@ def reference(s):
     count += compare('version', place, {int(version): (said(fewest), said(most)) for version, fewest, most, _ in rows}, s['version'])
     count += compare('record bytes', place, {int(version): int(length) for version, _, _, length in rows}, s['record bytes'])
     texts = text.one(r'(?s)a count of more than ([\d,]+) is refused with 14 here.*slice of at least ([\d,]+) and ([\d,]+) bytes')
-    count += compare('text', place, dict(zip(('TEXT_RECORDS', 'MOST_TEXT', 'MOST_FORMS'), map(said, texts or ()))), s['text'])
+    texts = (*(texts or ()), text.one(r'`sum_text::write_answer`, which takes a slice of at least ([\d,]+) bytes') or '0')
+    count += compare('text', place, dict(zip(('TEXT_RECORDS', 'MOST_TEXT', 'MOST_FORMS', 'MOST_ANSWER'), map(said, texts))), s['text'])
+    count += compare('limit', place, {'MOST_DEPTH': text.number(r'\n\| Is it at most (\d+) brackets deep\? \|')}, {'MOST_DEPTH': s['limit']['MOST_DEPTH']})
     for enum, begin, names in (('kind', r'\| kind: ', r'\b(Imm|Reg|Seg|Mem) (\d)'), ('size', 'displacement size: ', r'\b(Unspecified|Byte|Word) (\d)'),
             ('jump', r'\| jump kind: ', r'\b(none|Far|Near|Short) (\d)')):
         given = text.part(begin, r' \|').numbers(names, len(s[enum]), lambda n: 'NO_KIND' if n == 'none' else n.upper())

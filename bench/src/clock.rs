@@ -1,9 +1,18 @@
 //! Rounds of several sides in turn, and their median with its spread.
 
-use super::show::Show;
-use super::sides::{Side, Slots};
 use std::fmt;
 use std::time::Instant;
+
+/// What is timed, with what it writes.
+pub trait Turn {
+    /// The records, texts or terms of a round.
+    fn count(&self) -> usize;
+    /// Before each round, outside the clock.
+    fn clear(&mut self);
+    fn round(&mut self);
+    /// Are these the answers of a round? Else what is wrong.
+    fn answers(&self) -> Result<(), String>;
+}
 
 /// Nanoseconds a record: the median of the rounds, and their 10th and 90th percentile.
 pub struct Figure {
@@ -24,24 +33,23 @@ impl fmt::Display for Figure {
     }
 }
 
-/// Times sides on their shows in turn, so that a disturbance of the machine meets all of them, each round with cleared slots and in a rotated order. The
-/// answers of the last round are compared once more.
-pub fn clock(turns: &[(&Show, &Side)], rounds: usize, warming: usize) -> Result<Vec<Figure>, String> {
-    let mut slots: Vec<Slots> = turns.iter().map(|(show, side)| Slots::new(side, show.records.len())).collect();
+/// Times sides in turn, so that a disturbance of the machine meets all of them, each round with cleared slots and in a rotated order. The answers of the last
+/// round are compared once more.
+pub fn clock<T: Turn>(mut turns: Vec<T>, rounds: usize, warming: usize) -> Result<Vec<Figure>, String> {
     let mut times = vec![Vec::with_capacity(rounds); turns.len()];
     for round in 0..warming + rounds {
         for turn in 0..turns.len() {
             let n = (round + turn) % turns.len();
-            let (show, side) = turns[n];
-            slots[n].clear();
+            let side = &mut turns[n];
+            side.clear();
             let start = Instant::now();
-            (side.round)(show, &mut slots[n]);
+            side.round();
             let elapsed = start.elapsed();
             if round >= warming {
-                times[n].push(elapsed.as_nanos() as f64 / show.records.len() as f64);
+                times[n].push(elapsed.as_nanos() as f64 / side.count() as f64);
             }
             if round + 1 == warming + rounds {
-                (side.answers)(show, &slots[n]).map_err(|why| format!("{}: {why}", side.name))?;
+                side.answers()?;
             }
         }
     }

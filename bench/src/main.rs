@@ -1,4 +1,5 @@
-//! What a call costs: our encoder, reader, lister, loader and the text of a form on the records of records.fsq, beside the Rust of docs/src and Zydis.
+//! What a call costs: our encoder, reader, lister, loader and the text of a form on the records of records.fsq, beside the Rust of docs/src and Zydis; and the
+//! value of a sum.
 //! `build` wraps this file and the Rust's sources into one crate; see README.md.
 
 #[allow(dead_code, unused_imports)]
@@ -16,18 +17,21 @@ mod rattle;
 mod rust;
 mod show;
 mod sides;
+mod sums;
 #[cfg(zydis)]
 mod zydis;
 
-use clock::{clock, Figure};
+use clock::{clock, Figure, Turn};
 use show::Show;
-use sides::{Side, Slots};
+use sides::OnShow;
 use std::process::ExitCode;
 
 /// Rounds that are timed, and rounds before them that are not. A round is all records once.
 const ROUNDS: usize = 10_000;
 const WARMING: usize = 100;
 const SHORT: usize = 3;
+/// The terms of the longer texts.
+const TERMS: [usize; 4] = [1000, 2000, 4000, 8000];
 
 pub fn main() -> ExitCode {
     let arguments: Vec<String> = std::env::args().skip(1).collect();
@@ -36,8 +40,10 @@ pub fn main() -> ExitCode {
         ["full", file] => Show::read(file).and_then(|show| measure(&show, ROUNDS, WARMING, true)),
         ["short", file] => Show::read(file).and_then(|show| measure(&show, SHORT, 0, false)),
         ["listing", file] => Show::read(file).map(|show| show.print_listing()),
-        ["work", file, side, rounds] => Show::read(file).and_then(|show| work(&show, side, rounds)),
-        _ => Err("full FILE, short FILE, listing FILE, or work FILE SIDE ROUNDS".to_string()),
+        ["texts"] => Ok(sums::Texts::delays().print()),
+        ["work", _, "sum-rattle", rounds] => work(sums::Texts::delays(), rounds),
+        ["work", file, side, rounds] => Show::read(file).and_then(|show| work(OnShow::new(&show, sides::named(side).ok_or(format!("no side {side}"))?), rounds)),
+        _ => Err("full FILE, short FILE, listing FILE, texts, or work FILE SIDE ROUNDS".to_string()),
     };
     match done {
         Ok(()) => ExitCode::SUCCESS,
@@ -49,11 +55,9 @@ pub fn main() -> ExitCode {
 }
 
 /// One side alone, for callgrind.
-fn work(show: &Show, name: &str, rounds: &str) -> Result<(), String> {
-    let side = sides::named(name).ok_or(format!("no side {name}"))?;
-    let mut slots = Slots::new(side, show.records.len());
+fn work(mut side: impl Turn, rounds: &str) -> Result<(), String> {
     for _ in 0..rounds.parse::<usize>().map_err(|e| e.to_string())? {
-        (side.round)(show, &mut slots);
+        side.round();
     }
     Ok(())
 }
@@ -65,21 +69,24 @@ const REPEATS: [&str; 4] = ["encode-repeat", "read-repeat", "list-repeat", "load
 fn measure(show: &Show, rounds: usize, warming: usize, timed: bool) -> Result<(), String> {
     println!("records: {}", groups::counts(show));
     println!("bytes: {}", sides::agree(show)?);
+    println!("sums: {}", sums::agree()?);
 
-    let of = |names: &[&str]| -> Vec<(&Show, &Side)> { names.iter().filter_map(|name| Some((show, sides::named(name)?))).collect() };
-    let one_by_one = clock(&of(&["encode-rattle", "encode-rust", "encode-rust-alone"]), rounds, warming)?;
-    let reads = clock(&of(&["read-rattle", "read-zydis"]), rounds, warming)?;
-    let lists = clock(&of(&["list-rattle"]), rounds / 10 + 1, warming / 10)?;
-    let forms = clock(&of(&["form-rattle"]), rounds, warming)?;
-    let loads = clock(&of(&["load-rattle", "load-rust"]), rounds, warming)?;
-    let repeats = clock(&of(&REPEATS), rounds / 10 + 1, warming / 10)?;
+    fn on<'a>(show: &'a Show, names: &[&str]) -> Vec<OnShow<'a>> {
+        names.iter().filter_map(|name| Some(OnShow::new(show, sides::named(name)?))).collect()
+    }
+    let of = |names: &[&str]| on(show, names);
+    let one_by_one = clock(of(&["encode-rattle", "encode-rust", "encode-rust-alone"]), rounds, warming)?;
+    let reads = clock(of(&["read-rattle", "read-zydis"]), rounds, warming)?;
+    let lists = clock(of(&["list-rattle"]), rounds / 10 + 1, warming / 10)?;
+    let forms = clock(of(&["form-rattle"]), rounds, warming)?;
+    let loads = clock(of(&["load-rattle", "load-rust"]), rounds, warming)?;
+    let repeats = clock(of(&REPEATS), rounds / 10 + 1, warming / 10)?;
+    let sums = clock(vec![sums::Texts::delays()], rounds, warming)?;
     let grown = [1, 2, 4, 8].into_iter().map(|times| show.times(times)).collect::<Result<Vec<Show>, String>>()?;
-    let grow = |names: &[&str]| {
-        let turns: Vec<(&Show, &Side)> = grown.iter().flat_map(|longer| of(names).into_iter().map(move |(_, side)| (longer, side))).collect();
-        clock(&turns, rounds / 10 + 1, warming / 10)
-    };
+    let grow = |names: &[&str]| clock(grown.iter().flat_map(|longer| on(longer, names)).collect(), rounds / 10 + 1, warming / 10);
     let encoded = grow(&["encode-rattle", "encode-rust"])?;
     let loaded = grow(&["load-rattle", "load-rust"])?;
+    let evaluated = clock(TERMS.map(sums::Texts::of_terms).into(), rounds / 10 + 1, warming / 10)?;
     if !timed {
         println!("short: every side ran {rounds} rounds with equal answers; no claim about time");
         return Ok(());
@@ -98,12 +105,16 @@ fn measure(show: &Show, rounds: usize, warming: usize, timed: bool) -> Result<()
     for (name, figure) in REPEATS.iter().zip(&repeats) {
         println!("{name}: rattle {figure}/record");
     }
+    println!("sum: rattle {}/text", sums[0]);
     for (what, growth) in [("encodes", encoded), ("records loaded", loaded)] {
         for (longer, figures) in grown.iter().zip(growth.chunks(2)) {
             let n = longer.records.len();
             let said = |figure: &Figure| format!("{:.0} us, {figure}/record", figure.median * n as f64 / 1000.0);
             println!("growth: {n} {what}: rattle {}; rust {}", said(&figures[0]), said(&figures[1]));
         }
+    }
+    for (n, figure) in TERMS.iter().zip(&evaluated) {
+        println!("growth: a text of {n} terms: rattle {:.0} us, {figure}/term", figure.median * *n as f64 / 1000.0);
     }
     Ok(())
 }

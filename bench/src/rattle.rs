@@ -43,3 +43,10 @@ pub fn load(file: &[u8], image: &mut [u8], report: &mut Report) -> Option<usize>
     let number = unsafe { fsq_load(file.as_ptr(), file.len(), image.as_mut_ptr(), image.len(), report.as_mut_ptr(), report.len()) };
     (number == FSQ_DONE).then(|| length(report))
 }
+
+/// The value of a sum.
+#[inline]
+pub fn evaluate(text: &[u8], report: &mut Report) -> Option<i32> {
+    let number = unsafe { fsq_evaluate(text.as_ptr(), text.len(), report.as_mut_ptr(), report.len()) };
+    (number == FSQ_DONE).then(|| i32::from_le_bytes(report[FSQ_REPORT_VALUE_AT..][..4].try_into().unwrap()))
+}

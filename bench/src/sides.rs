@@ -2,6 +2,7 @@
 
 use super::answers::Run;
 use super::bindings::*;
+use super::clock::Turn;
 use super::rattle::{self, Report};
 use super::rust;
 use super::show::Show;
@@ -28,7 +29,7 @@ pub struct Slots {
 }
 
 impl Slots {
-    pub fn new(side: &Side, records: usize) -> Slots {
+    fn new(side: &Side, records: usize) -> Slots {
         let of = |writes| if side.writes == writes { records } else { 0 };
         Slots {
             bytes: vec![[0; 8]; of(Writes::Bytes)],
@@ -39,8 +40,7 @@ impl Slots {
         }
     }
 
-    /// Before each round, outside the clock.
-    pub fn clear(&mut self) {
+    fn clear(&mut self) {
         self.bytes.fill([0; 8]);
         self.lengths.fill(0);
         self.lists.fill([0; FSQ_LIST_LENGTH]);
@@ -50,11 +50,42 @@ impl Slots {
 }
 
 pub struct Side {
-    pub name: &'static str,
+    name: &'static str,
     writes: Writes,
-    pub round: fn(&Show, &mut Slots),
+    round: fn(&Show, &mut Slots),
     /// Are these the answers of a round? Else what is wrong.
-    pub answers: fn(&Show, &Slots) -> Result<(), String>,
+    answers: fn(&Show, &Slots) -> Result<(), String>,
+}
+
+/// A side on a show.
+pub struct OnShow<'a> {
+    show: &'a Show,
+    side: &'static Side,
+    slots: Slots,
+}
+
+impl<'a> OnShow<'a> {
+    pub fn new(show: &'a Show, side: &'static Side) -> OnShow<'a> {
+        OnShow { show, side, slots: Slots::new(side, show.records.len()) }
+    }
+}
+
+impl Turn for OnShow<'_> {
+    fn count(&self) -> usize {
+        self.show.records.len()
+    }
+
+    fn clear(&mut self) {
+        self.slots.clear();
+    }
+
+    fn round(&mut self) {
+        (self.side.round)(self.show, &mut self.slots);
+    }
+
+    fn answers(&self) -> Result<(), String> {
+        (self.side.answers)(self.show, &self.slots).map_err(|why| format!("{}: {why}", self.side.name))
+    }
 }
 
 const SIDES: &[Side] = &[
@@ -81,9 +112,9 @@ pub fn named(name: &str) -> Option<&'static Side> {
 /// Runs every side once and compares its answers with those of the Rust.
 pub fn agree(show: &Show) -> Result<String, String> {
     for side in SIDES {
-        let mut slots = Slots::new(side, show.records.len());
-        (side.round)(show, &mut slots);
-        (side.answers)(show, &slots).map_err(|why| format!("{}: {why}", side.name))?;
+        let mut turn = OnShow::new(show, side);
+        turn.round();
+        turn.answers()?;
     }
     let total = |strings: &[Run]| -> usize { strings.iter().map(|string| string.len).sum() };
     let names: Vec<&str> = SIDES.iter().map(|side| side.name).collect();

@@ -1,6 +1,8 @@
-/* Encodes Word ADD [BX],5, tells its form, reads it back, lists all of its strings, and shows a refusal with its question; then REP MOVSB, encoded and read. */
+/* Encodes Word ADD [BX],5, tells its form, reads it back, lists all of its strings, and shows a refusal with its question; then REP MOVSB, encoded and read;
+ * and evaluates a sum. */
 #include "fsq.h"
 #include <stdio.h>
+#include <string.h>
 
 static void print_string(const uint8_t *bytes, size_t length) {
     for (size_t i = 0; i < length; i++)
@@ -11,6 +13,8 @@ int main(void) {
     fsq_record_t add = fsq_two(FSQ_ADD, fsq_mem(FSQ_WORD, FSQ_BASE_BX, 0), fsq_imm(5));
     fsq_record_t mov = fsq_two(FSQ_MOV, fsq_mem(FSQ_BYTE, FSQ_BASE_BX, 0), fsq_imm(300));
     fsq_repeat_record_t copy = fsq_with_repeat(fsq_none(FSQ_MOVSB), FSQ_REPEAT_REP);
+    const char *delay = "3*(40+2)-1";
+    int32_t value;
     uint8_t string[FSQ_STRING_LENGTH];
     fsq_reading_t reading;
     fsq_line_t line;
@@ -57,5 +61,9 @@ int main(void) {
         return -length;
     printf("read: operation %d of %d bytes, form %02X, repeat %02X\n", fsq_reading_operation(&reading), length, fsq_reading_opcode(&reading),
            (unsigned) fsq_reading_repeat(&reading));
+
+    if (fsq_evaluate_text(delay, strlen(delay), &value) < 0)
+        return 1;
+    printf("%s is %d\n", delay, (int) value);
     return 0;
 }

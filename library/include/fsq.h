@@ -2,12 +2,12 @@
  * target/staticlib, where libforeign.a is the same archive under the name that `rt staticlib foreign` gives it. `make -C library install` and
  * library/CMakeLists.txt install header, library and fsq.pc, its pkg-config file.
  *
- * This header has, in this order: the numbers and offsets; the five functions of the library; and over them inline functions, which a program
+ * This header has, in this order: the numbers and offsets; the six functions of the library; and over them inline functions, which a program
  * needs no offsets for: operands (fsq_reg, fsq_mem, ..), records (fsq_none, fsq_one, fsq_two), records with a repeat (fsq_with_repeat), calls whose
- * answer is the length (fsq_encode_at, fsq_list_at, fsq_form_at, fsq_read_at, fsq_load_show), fields, names, and the writing of a show file
- * (fsq_write_show). library/examples/one.c and show.c use them.
+ * answer is the length (fsq_encode_at, fsq_list_at, fsq_form_at, fsq_read_at, fsq_load_show), the value of a sum (fsq_evaluate_text), fields, names,
+ * and the writing of a show file (fsq_write_show). library/examples/one.c and show.c use them.
  *
- * The five functions work on slices that the caller lends: an address and a length. For all of them:
+ * The six functions work on slices that the caller lends: an address and a length. For all of them:
  * - A slice of any length is safe. One of length 0 may have any address that is not null.
  * - No two slices of one call may overlap.
  * - Nothing is written behind what is said here, and on a refusal nothing but the report.
@@ -22,7 +22,7 @@
 
 /* The version of this header. Another major one may take a name away, another minor one adds some or raises a limit. */
 #define FSQ_VERSION_MAJOR 2
-#define FSQ_VERSION_MINOR 3
+#define FSQ_VERSION_MINOR 4
 
 #ifdef __cplusplus
 extern "C" {
@@ -46,6 +46,9 @@ enum fsq_answer {
     FSQ_WRONG_VERSION = 13,               /* The file's version is not 1, 2 or 3. */
     FSQ_WRONG_LENGTH = 14,                /* The file is not as long as its count says, its version does not take this count, or a record has not 56 or 57 bytes. */
     FSQ_UNKNOWN_CODE = 15,                /* A record has an operation, kind, size or jump kind that does not exist. */
+    FSQ_NOT_A_SUM = 16,                   /* The text is not a sum, as fsq_evaluate has it. */
+    FSQ_TOO_DEEP = 17,                    /* The sum is more than 16 brackets deep. */
+    FSQ_VALUE_OUT_OF_RANGE = 18,          /* A value on the way is outside -2,147,483,648 to 2,147,483,647, or a divisor is 0. */
     FSQ_INVALID_REPEAT = 23               /* The repeat is not 0, F2 or F3 (hexadecimal), or the operation is no string operation and has one. */
 };
 
@@ -70,6 +73,7 @@ enum fsq_limit {
     FSQ_MOST_RECORDS = 8000,   /* of a show file */
     FSQ_SHORT_RECORDS = 1000,  /* the most of a file of version 1, and of one that fsqlist and fsqform print */
     FSQ_MOST_ENTRIES = 12,     /* of a list */
+    FSQ_MOST_DEPTH = 16,       /* brackets of a sum, one within the other */
     FSQ_FILE_VERSION = 1,      /* up to FSQ_SHORT_RECORDS records of 56 bytes */
     FSQ_LONG_VERSION = 2,      /* above FSQ_SHORT_RECORDS, of 56 bytes */
     FSQ_REPEAT_VERSION = 3     /* any number to FSQ_MOST_RECORDS, of 57 bytes; all repeats may be 0 */
@@ -83,7 +87,7 @@ enum fsq_report {
     FSQ_REPORT_LENGTH_AT = 0,       /* u32: the length or count that the function answers */
     FSQ_REPORT_SPAN_START_AT = 4,   /* u32: the span of a refusal from 1 to 9, or 23 */
     FSQ_REPORT_SPAN_END_AT = 8,     /* u32 */
-    FSQ_REPORT_VALUE_AT = 12,       /* i32: the value of a refusal 5, the distance of a refusal 6 */
+    FSQ_REPORT_VALUE_AT = 12,       /* i32: the value of a refusal 5, the distance of a refusal 6; of fsq_evaluate the sum's value */
     FSQ_REPORT_LOW_AT = 16,         /* i32: the limits of a refusal 5 */
     FSQ_REPORT_HIGH_AT = 20,        /* i32 */
     FSQ_REPORT_RECORD_AT = 24,      /* u32: the record, from 0, that fsq_load refuses, else FSQ_NO_RECORD */
@@ -261,10 +265,20 @@ uint8_t fsq_read(const uint8_t *bytes, size_t bytes_len, uint16_t offset, uint8_
  */
 uint8_t fsq_load(const uint8_t *file, size_t file_len, uint8_t *image, size_t image_len, uint8_t *report, size_t report_len);
 
+/* Evaluates a sum, as delays are written: `3*(40+2)-1` is 125.
+ * The text: decimal numbers, + - * /, unary minus and brackets, at most 16 of them one within the other; no blanks. Unary minus binds
+ * closest, then * and /, then + and -, equals from the left. A division cuts toward zero. Every value on the way, also a number, is
+ * -2,147,483,648 to 2,147,483,647; a minus directly before digits is taken with them.
+ *   text, text_len       the text in ASCII, with no line feed and no 0 behind it
+ *   report, report_len   gets the report where it has 28 bytes, else stays as it is; its value is the sum's, and its length 0
+ *   answers              FSQ_DONE; FSQ_NOT_A_SUM, then FSQ_TOO_DEEP, then FSQ_VALUE_OUT_OF_RANGE, each without a span (docs/REFERENCE.md, 12)
+ */
+uint8_t fsq_evaluate(const uint8_t *text, size_t text_len, uint8_t *report, size_t report_len);
+
 /* The inline functions.
  *
- * They stand over the five functions and are compiled with the program that includes this header. They allocate nothing and keep nothing.
- * Where one answers an int, it is a length or a count, 0 or more, or a refusal's number made negative, -1 to -15 or -23:
+ * They stand over the six functions and are compiled with the program that includes this header. They allocate nothing and keep nothing.
+ * Where one answers an int, it is a length or a count, 0 or more, or a refusal's number made negative, -1 to -18 or -23:
  *
  *     int length = fsq_encode_at(&record, offset, out, sizeof out, &report);
  *     if (length < 0)
@@ -273,6 +287,7 @@ uint8_t fsq_load(const uint8_t *file, size_t file_len, uint8_t *image, size_t im
  * - A pointer that is null is an empty slice, whatever length comes with it, and a slice of length 0 may have any address.
  * - No two of the slices, records, lists, readings and reports of one call may overlap.
  * - A report may be null where it is not wanted.
+ * - The value of a sum may be negative: fsq_evaluate_text answers 0 and has the value beside it.
  */
 
 /* An operand, a record, a report, a read instruction and a list: their bytes, as the offsets above name them. A report cannot be too short, and a
@@ -654,6 +669,19 @@ static inline int fsq_load_show(const uint8_t *file, size_t file_len, uint8_t *i
     return answer == FSQ_DONE ? (int) fsq_get_u32(report->bytes + FSQ_REPORT_LENGTH_AT) : -(int) answer;
 }
 
+/* Evaluates a sum: fsq_evaluate.
+ *   text, text_len   the text, without the 0 that ends a string of C: its length is strlen's
+ *   value            gets the value, or is null; stays on a refusal
+ *   answers          0, or a refusal's number made negative, -16 to -18
+ */
+static inline int fsq_evaluate_text(const char *text, size_t text_len, int32_t *value) {
+    fsq_report_t own;
+    uint8_t answer = fsq_evaluate(text != NULL ? (const uint8_t *) text : own.bytes, text != NULL ? text_len : 0, own.bytes, FSQ_REPORT_LENGTH);
+    if (answer == FSQ_DONE && value != NULL)
+        *value = fsq_get_i32(own.bytes + FSQ_REPORT_VALUE_AT);
+    return -(int) answer;
+}
+
 /* The fields of a report. One that the answer does not give is 0, and the record FSQ_NO_RECORD. */
 
 /* The length or count that the function answers. */
@@ -671,7 +699,7 @@ static inline uint32_t fsq_report_span_end(const fsq_report_t *report) {
     return fsq_get_u32(report->bytes + FSQ_REPORT_SPAN_END_AT);
 }
 
-/* The value that a refusal 5 is about, or the distance of a refusal 6. */
+/* The value that a refusal 5 is about, or the distance of a refusal 6; of fsq_evaluate the value of the sum. */
 static inline int32_t fsq_report_value(const fsq_report_t *report) {
     return fsq_get_i32(report->bytes + FSQ_REPORT_VALUE_AT);
 }
@@ -779,20 +807,21 @@ static inline uint16_t fsq_reading_far_segment(const fsq_reading_t *reading, uns
 
 /* Names. */
 
-/* Where the two lists below have an answer: by its number up to 15, then 23, then all that there is not. */
+/* Where the two lists below have an answer: by its number up to 18, then 23, then all that there is not. */
 static inline unsigned fsq_refusal_place(int answer) {
-    return answer >= 0 ? 0 : answer >= -FSQ_UNKNOWN_CODE ? (unsigned) -answer : FSQ_UNKNOWN_CODE + (answer == -FSQ_INVALID_REPEAT ? 1u : 2u);
+    return answer >= 0 ? 0 : answer >= -FSQ_VALUE_OUT_OF_RANGE ? (unsigned) -answer : FSQ_VALUE_OUT_OF_RANGE + (answer == -FSQ_INVALID_REPEAT ? 1u : 2u);
 }
 
 /* The name of a refusal, as enum fsq_answer has it without FSQ_.
  *   answer    what an inline function answers; what one of the library's answers is to be made negative
- *   answers   the name; "DONE" of 0 and every length, "UNKNOWN" of -16 to -22 and below -23
+ *   answers   the name; "DONE" of 0 and every length, "UNKNOWN" of -19 to -22 and below -23
  */
 static inline const char *fsq_refusal_name(int answer) {
     static const char *const names[] = {
         "DONE", "INVALID_OPERANDS", "OPERAND_SIZE_NOT_SPECIFIED", "OPERAND_SIZES_DO_NOT_MATCH", "INVALID_OPERAND_SIZE",
         "IMMEDIATE_OUT_OF_RANGE", "RELATIVE_JUMP_OUT_OF_RANGE", "NOT_SUPPORTED", "NOT_WELL_FORMED", "SLICE_TOO_SHORT",
-        "NOT_AN_INSTRUCTION", "NOT_COMPLETE", "NO_MARK", "WRONG_VERSION", "WRONG_LENGTH", "UNKNOWN_CODE", "INVALID_REPEAT", "UNKNOWN"
+        "NOT_AN_INSTRUCTION", "NOT_COMPLETE", "NO_MARK", "WRONG_VERSION", "WRONG_LENGTH", "UNKNOWN_CODE",
+        "NOT_A_SUM", "TOO_DEEP", "VALUE_OUT_OF_RANGE", "INVALID_REPEAT", "UNKNOWN"
     };
     return names[fsq_refusal_place(answer)];
 }
@@ -819,6 +848,9 @@ static inline const char *fsq_refusal_sentence(int answer) {
         "The file's version is not 1, 2 or 3.",
         "The file is not as long as its count says, its version does not take this count, or a record has not 56 or 57 bytes.",
         "A record has an operation, kind, size or jump kind that does not exist.",
+        "The text is not a sum of decimal numbers, + - * / and brackets, without blanks.",
+        "The sum is more than 16 brackets deep.",
+        "A value on the way is outside -2147483648 to 2147483647, or a divisor is 0.",
         "The repeat is neither REP nor REPNE, or the operation takes none.",
         "This header does not know the refusal."
     };

@@ -1,4 +1,4 @@
-// Wrong programs for tests/library/broken: the five functions with one fault each, named by FSQ_FAULT.
+// Wrong programs for tests/library/broken: the six functions with one fault each, named by FSQ_FAULT.
 #include "fsq.h"
 #include <stdlib.h>
 #include <string.h>
@@ -8,6 +8,7 @@ extern __typeof__(fsq_list) right_list;
 extern __typeof__(fsq_form) right_form;
 extern __typeof__(fsq_read) right_read;
 extern __typeof__(fsq_load) right_load;
+extern __typeof__(fsq_evaluate) right_evaluate;
 
 static int fault(const char *name) {
     const char *named = getenv("FSQ_FAULT");
@@ -214,5 +215,47 @@ uint8_t fsq_load(const uint8_t *file, size_t n, uint8_t *image, size_t m, uint8_
         report[FSQ_REPORT_RECORD_AT]++;
     if (fault("wrong-last-byte") && answer == FSQ_DONE && k >= FSQ_REPORT_LENGTH && fsq_get_u32(report + FSQ_REPORT_LENGTH_AT) != 0)
         image[fsq_get_u32(report + FSQ_REPORT_LENGTH_AT) - 1] ^= 1;
+    return answer;
+}
+
+uint8_t fsq_evaluate(const uint8_t *text, size_t n, uint8_t *report, size_t k) {
+    uint8_t answer;
+    int reported = k >= FSQ_REPORT_LENGTH;
+    int32_t value;
+    if (fault("text-written") && n > 0)
+        ((volatile uint8_t *) text)[0] = text[0];
+    if (fault("byte-behind-the-text-read") && ((const volatile uint8_t *) text)[n] == '0')
+        n++;
+    answer = right_evaluate(text, n, report, k);
+    if (fault("blank-behind-the-text") && answer == FSQ_NOT_A_SUM && n > 1 && (text[n - 1] == ' ' || text[n - 1] == '\n' || text[n - 1] == 0))
+        answer = right_evaluate(text, n - 1, report, k);
+    if (fault("16-for-17") && answer == FSQ_TOO_DEEP)
+        answer = FSQ_NOT_A_SUM;
+    if (fault("17-for-16") && answer == FSQ_NOT_A_SUM && n > 16)
+        answer = FSQ_TOO_DEEP;
+    if (fault("17-for-18") && answer == FSQ_VALUE_OUT_OF_RANGE)
+        answer = FSQ_TOO_DEEP;
+    if (fault("18-dropped") && answer == FSQ_VALUE_OUT_OF_RANGE)
+        answer = FSQ_DONE;
+    if (fault("15-brackets") && answer == FSQ_DONE && n > 16 && memcmp(text, "((((((((((((((((", 16) == 0)
+        answer = FSQ_TOO_DEEP;
+    if (reported && answer == FSQ_DONE) {
+        value = fsq_get_i32(report + FSQ_REPORT_VALUE_AT);
+        if (fault("value-one-off") && value < 0)
+            value++;
+        if (fault("value-in-16-bits"))
+            value = (int16_t) value;
+        if (fault("sign-lost") && value < 0 && value > -2147483647)
+            value = -value;
+        fsq_put_u32(report + FSQ_REPORT_VALUE_AT, (uint32_t) value);
+    }
+    if (fault("value-beside-a-refusal") && reported && answer != FSQ_DONE)
+        fsq_put_u32(report + FSQ_REPORT_VALUE_AT, 1);
+    if (fault("length-of-a-sum") && reported && answer == FSQ_DONE)
+        report[FSQ_REPORT_LENGTH_AT] = 4;
+    if (fault("span-of-a-text") && reported && answer != FSQ_DONE)
+        report[FSQ_REPORT_SPAN_END_AT] = (uint8_t) n;
+    if (fault("value-into-27-bytes") && k == FSQ_REPORT_LENGTH - 1)
+        report[FSQ_REPORT_VALUE_AT] = 0;
     return answer;
 }

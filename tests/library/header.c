@@ -175,7 +175,7 @@ static void numbers(void) {
     CHECK(is(at, 5, "78 56 34 12 A5") && fsq_get_i32(at) == 0x12345678);
     fsq_put_u16(at, 0xABCD);
     CHECK(is(at, 3, "CD AB 34"));
-    CHECK(FSQ_VERSION_MAJOR == 2 && FSQ_VERSION_MINOR >= 3);
+    CHECK(FSQ_VERSION_MAJOR == 2 && FSQ_VERSION_MINOR >= 4);
     CHECK(FSQ_MOST_RECORDS == 8000 && FSQ_SHORT_RECORDS == 1000 && FSQ_IMAGE_LENGTH == 56000 && FSQ_FILE_LENGTH == 456009);
     CHECK(FSQ_FILE_VERSION == 1 && FSQ_LONG_VERSION == 2 && FSQ_REPEAT_VERSION == 3 && FSQ_RECORD_LENGTH == 56 && FSQ_REPEAT_RECORD_LENGTH == 57);
     CHECK(FSQ_REPEAT_NONE == 0 && FSQ_REPEAT_REPNE == 0xF2 && FSQ_REPEAT_REP == 0xF3 && FSQ_REPEAT_AT == 2 && FSQ_READ_REPEAT_AT == 5);
@@ -899,6 +899,98 @@ static void long_repeat_shows(void) {
     }
 }
 
+/* The value of a text, or a refusal's number made negative, by the inline function and by the library's, which writes a report; a value that is refused stays. */
+static void evaluates(const char *text, int answer, int32_t value, int line) {
+    uint8_t report[FSQ_REPORT_LENGTH + 1], expected[FSQ_REPORT_LENGTH + 1] = {0};
+    size_t length = strlen(text);
+    int32_t got = 12345;
+    int number = -answer;
+    check(fsq_evaluate_text(text, length, &got) == answer && got == (answer == 0 ? value : 12345), text, line);
+    check(fsq_evaluate_text(text, length, NULL) == answer, text, line);
+    memset(report, 0xA5, sizeof report);
+    fsq_put_u32(expected + FSQ_REPORT_VALUE_AT, answer == 0 ? (uint32_t) value : 0);
+    fsq_put_u32(expected + FSQ_REPORT_RECORD_AT, FSQ_NO_RECORD);
+    expected[FSQ_REPORT_LENGTH] = 0xA5;
+    check(fsq_evaluate((const uint8_t *) text, length, report, sizeof report) == number && memcmp(report, expected, sizeof report) == 0, text, line);
+    check(fsq_evaluate((const uint8_t *) text, length, report, FSQ_REPORT_LENGTH - 1) == number && memcmp(report, expected, sizeof report) == 0, text, line);
+}
+
+#define VALUE(text, value) evaluates((text), 0, (value), __LINE__)
+#define TURNED_AWAY(text, number) evaluates((text), -(number), 0, __LINE__)
+#define DEEP_16 "(((((((((((((((("
+#define CLOSED_16 "))))))))))))))))"
+
+/* REFERENCE 12, the settled texts of document 02, No. 6. */
+static void sums(void) {
+    static const char whole[] = {'3', '*', '7', 0, '+', '1'};
+    fsq_report_t report;
+    int32_t value = 12345;
+    char byte[2] = {0, 0};
+    int n;
+    VALUE("3*(40+2)-1", 125);
+    VALUE("007", 7);
+    VALUE("0", 0);
+    VALUE("1+-1", 0);
+    VALUE("1--1", 2);
+    VALUE("-(-5)", 5);
+    VALUE("-7/2", -3);
+    VALUE("7/-2", -3);
+    VALUE("8/4*2", 4);
+    VALUE("7-4-2", 1);
+    VALUE("2+3*4", 14);
+    VALUE("-2*-3", 6);
+    VALUE("2147483647", 2147483647);
+    VALUE("-2147483648", -2147483647 - 1);
+    VALUE("(-2147483648)", -2147483647 - 1);
+    VALUE("1*-2147483648", -2147483647 - 1);
+    VALUE("-1--2147483648", 2147483647);
+    VALUE("--2147483647", 2147483647);
+    VALUE("46340*46340", 2147395600);
+    VALUE(DEEP_16 "1" CLOSED_16, 1);
+    VALUE(DEEP_16 "1" CLOSED_16 "-" DEEP_16 "2" CLOSED_16, -1);
+    VALUE("-----------------1", -1);
+    TURNED_AWAY("", FSQ_NOT_A_SUM);
+    TURNED_AWAY("+1", FSQ_NOT_A_SUM);
+    TURNED_AWAY("1++1", FSQ_NOT_A_SUM);
+    TURNED_AWAY("2(3)", FSQ_NOT_A_SUM);
+    TURNED_AWAY("()", FSQ_NOT_A_SUM);
+    TURNED_AWAY("1 +1", FSQ_NOT_A_SUM);
+    TURNED_AWAY("1\n", FSQ_NOT_A_SUM);
+    TURNED_AWAY("1/0)", FSQ_NOT_A_SUM);
+    TURNED_AWAY("(" DEEP_16 "1" CLOSED_16, FSQ_NOT_A_SUM);
+    TURNED_AWAY("(" DEEP_16 "1" CLOSED_16 ")", FSQ_TOO_DEEP);
+    TURNED_AWAY("(" DEEP_16 "1/0" CLOSED_16 ")", FSQ_TOO_DEEP);
+    TURNED_AWAY(DEEP_16 "1/0" CLOSED_16, FSQ_VALUE_OUT_OF_RANGE);
+    TURNED_AWAY("2147483648", FSQ_VALUE_OUT_OF_RANGE);
+    TURNED_AWAY("2147483648-1", FSQ_VALUE_OUT_OF_RANGE);
+    TURNED_AWAY("1-2147483648", FSQ_VALUE_OUT_OF_RANGE);
+    TURNED_AWAY("-(2147483648)", FSQ_VALUE_OUT_OF_RANGE);
+    TURNED_AWAY("--2147483648", FSQ_VALUE_OUT_OF_RANGE);
+    TURNED_AWAY("---2147483648", FSQ_VALUE_OUT_OF_RANGE);
+    TURNED_AWAY("-2147483649", FSQ_VALUE_OUT_OF_RANGE);
+    TURNED_AWAY("2147483647+1-1", FSQ_VALUE_OUT_OF_RANGE);
+    TURNED_AWAY("-2147483648/-1", FSQ_VALUE_OUT_OF_RANGE);
+    TURNED_AWAY("0*(1/0)", FSQ_VALUE_OUT_OF_RANGE);
+    TURNED_AWAY("99999999999999999999", FSQ_VALUE_OUT_OF_RANGE);
+
+    /* The length says where a text ends, and a 0 does not. */
+    CHECK(fsq_evaluate_text(whole, 3, &value) == 0 && value == 21);
+    CHECK(fsq_evaluate_text(whole, 4, &value) == -FSQ_NOT_A_SUM && fsq_evaluate_text(whole, 6, &value) == -FSQ_NOT_A_SUM && value == 21);
+    CHECK(fsq_evaluate_text(whole, 0, &value) == -FSQ_NOT_A_SUM && value == 21);
+    /* A null text is an empty one, whatever length comes with it. */
+    CHECK(fsq_evaluate_text(NULL, 0, &value) == -FSQ_NOT_A_SUM && fsq_evaluate_text(NULL, 3, &value) == -FSQ_NOT_A_SUM && value == 21);
+    CHECK(fsq_evaluate_text(NULL, 0, NULL) == -FSQ_NOT_A_SUM && fsq_evaluate_text(NULL, 3, NULL) == -FSQ_NOT_A_SUM);
+    /* Of the texts of one byte ten are sums. */
+    for (n = 0; n < 256; n++) {
+        byte[0] = (char) n;
+        value = -1;
+        CHECK(fsq_evaluate_text(byte, 1, &value) == (n >= '0' && n <= '9' ? 0 : -16) && value == (n >= '0' && n <= '9' ? n - '0' : -1));
+    }
+    CHECK(fsq_evaluate((const uint8_t *) "-7/2", 4, report.bytes, sizeof report.bytes) == FSQ_DONE && fsq_report_value(&report) == -3);
+    CHECK(fsq_report_length(&report) == 0 && fsq_report_span_end(&report) == 0 && fsq_report_record(&report) == FSQ_NO_RECORD);
+    CHECK(FSQ_MOST_DEPTH == 16);
+}
+
 /* The names of REFERENCE 11, by the enumerators of the header, and its comments as sentences. */
 #define REFUSAL(name) CHECK(strcmp(fsq_refusal_name(-FSQ_##name), #name) == 0)
 /* operations.h, which tests/library/compilers writes, has OPERATION(name) for each of tools/operations.py. */
@@ -922,24 +1014,29 @@ static void names(void) {
         "The file does not begin with \"FSQ\".",
         "The file's version is not 1, 2 or 3.",
         "The file is not as long as its count says, its version does not take this count, or a record has not 56 or 57 bytes.",
-        "A record has an operation, kind, size or jump kind that does not exist."
+        "A record has an operation, kind, size or jump kind that does not exist.",
+        "The text is not a sum of decimal numbers, + - * / and brackets, without blanks.",
+        "The sum is more than 16 brackets deep.",
+        "A value on the way is outside -2147483648 to 2147483647, or a divisor is 0."
     };
     int number = 0, i;
     REFUSAL(DONE); REFUSAL(INVALID_OPERANDS); REFUSAL(OPERAND_SIZE_NOT_SPECIFIED); REFUSAL(OPERAND_SIZES_DO_NOT_MATCH);
     REFUSAL(INVALID_OPERAND_SIZE); REFUSAL(IMMEDIATE_OUT_OF_RANGE); REFUSAL(RELATIVE_JUMP_OUT_OF_RANGE); REFUSAL(NOT_SUPPORTED);
     REFUSAL(NOT_WELL_FORMED); REFUSAL(SLICE_TOO_SHORT); REFUSAL(NOT_AN_INSTRUCTION); REFUSAL(NOT_COMPLETE); REFUSAL(NO_MARK);
-    REFUSAL(WRONG_VERSION); REFUSAL(WRONG_LENGTH); REFUSAL(UNKNOWN_CODE); REFUSAL(INVALID_REPEAT);
+    REFUSAL(WRONG_VERSION); REFUSAL(WRONG_LENGTH); REFUSAL(UNKNOWN_CODE); REFUSAL(NOT_A_SUM); REFUSAL(TOO_DEEP); REFUSAL(VALUE_OUT_OF_RANGE);
+    REFUSAL(INVALID_REPEAT);
     CHECK(strcmp(fsq_refusal_name(7), "DONE") == 0 && strcmp(fsq_refusal_name(56000), "DONE") == 0);
-    for (i = 0; i <= 15; i++)
+    CHECK(FSQ_NOT_A_SUM == 16 && FSQ_TOO_DEEP == 17 && FSQ_VALUE_OUT_OF_RANGE == 18);
+    for (i = 0; i <= 18; i++)
         CHECK(strcmp(fsq_refusal_sentence(-i), sentences[i]) == 0);
     CHECK(strcmp(fsq_refusal_sentence(-23), "The repeat is neither REP nor REPNE, or the operation takes none.") == 0);
-    /* 16 to 22 are no refusals of this library, and nothing is above 23. */
-    for (i = 16; i <= 260; i++) {
+    /* 19 to 22 are no refusals of this library, and nothing is above 23. */
+    for (i = 19; i <= 260; i++) {
         CHECK((strcmp(fsq_refusal_name(-i), "UNKNOWN") == 0) == (i != 23));
         CHECK((strcmp(fsq_refusal_sentence(-i), "This header does not know the refusal.") == 0) == (i != 23));
     }
     CHECK(strcmp(fsq_refusal_name(-2147483647 - 1), "UNKNOWN") == 0);
-    CHECK(fsq_refusal_sentence(7) == fsq_refusal_sentence(0) && fsq_refusal_sentence(-2147483647 - 1) == fsq_refusal_sentence(-16));
+    CHECK(fsq_refusal_sentence(7) == fsq_refusal_sentence(0) && fsq_refusal_sentence(-2147483647 - 1) == fsq_refusal_sentence(-19));
 #include "operations.h"
     CHECK(number == 99);
     for (i = LEAST; i <= OPERATIONS; i++)
@@ -959,6 +1056,7 @@ int main(void) {
     repeats();
     repeat_shows();
     long_repeat_shows();
+    sums();
     names();
     printf("header: %d checks, %d failed\n", checks, failures);
     return failures != 0;

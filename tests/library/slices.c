@@ -1,5 +1,6 @@
-/* slices FILE: the five functions and the header's inline functions over them on lent slices of every length that can matter, with the records of a
- * show file, whole and with a byte changed, each without a repeat and with one. A file of more records than version 1 has is loaded only.
+/* slices FILE: the six functions and the header's inline functions over them on lent slices of every length that can matter, with the records of a
+ * show file, whole and with a byte changed, each without a repeat and with one, and with texts of sums. A file of more records than version 1 has is
+ * loaded only.
  *
  * Every slice ends at a page that cannot be touched, or begins behind one, and what is only read cannot be written: a byte outside ends the program.
  * After each call is compared what it may change: on a refusal nothing but the report, else nothing behind what is answered; and the answer
@@ -83,11 +84,13 @@ uint8_t __real_fsq_list(const uint8_t *, size_t, uint16_t, uint8_t *, size_t, ui
 uint8_t __real_fsq_form(const uint8_t *, size_t, uint16_t, uint8_t *, size_t, uint8_t *, size_t);
 uint8_t __real_fsq_read(const uint8_t *, size_t, uint16_t, uint8_t *, size_t);
 uint8_t __real_fsq_load(const uint8_t *, size_t, uint8_t *, size_t, uint8_t *, size_t);
+uint8_t __real_fsq_evaluate(const uint8_t *, size_t, uint8_t *, size_t);
 uint8_t __wrap_fsq_encode(const uint8_t *, size_t, uint16_t, uint8_t *, size_t, uint8_t *, size_t);
 uint8_t __wrap_fsq_list(const uint8_t *, size_t, uint16_t, uint8_t *, size_t, uint8_t *, size_t);
 uint8_t __wrap_fsq_form(const uint8_t *, size_t, uint16_t, uint8_t *, size_t, uint8_t *, size_t);
 uint8_t __wrap_fsq_read(const uint8_t *, size_t, uint16_t, uint8_t *, size_t);
 uint8_t __wrap_fsq_load(const uint8_t *, size_t, uint8_t *, size_t, uint8_t *, size_t);
+uint8_t __wrap_fsq_evaluate(const uint8_t *, size_t, uint8_t *, size_t);
 
 uint8_t __wrap_fsq_encode(const uint8_t *record, size_t n, uint16_t offset, uint8_t *o, size_t m, uint8_t *r, size_t k) {
     handed("fsq_encode", record, n, o, m, r);
@@ -114,14 +117,19 @@ uint8_t __wrap_fsq_load(const uint8_t *file, size_t n, uint8_t *image, size_t m,
     return __real_fsq_load(file, n, image, m, r, k);
 }
 
-enum function { ENCODE, LIST, READ, LOAD, FORM };
+uint8_t __wrap_fsq_evaluate(const uint8_t *text, size_t n, uint8_t *r, size_t k) {
+    handed("fsq_evaluate", text, n, r, 0, r);
+    return __real_fsq_evaluate(text, n, r, k);
+}
+
+enum function { ENCODE, LIST, READ, LOAD, FORM, EVALUATE };
 
 /* The bytes that one of what a function counts has. */
-static const size_t each[] = {1, FSQ_ENTRY_LENGTH, 0, 1, 1};
+static const size_t each[] = {1, FSQ_ENTRY_LENGTH, 0, 1, 1, 0};
 
 /* One call. `bytes` is what it reads; the answer is compared with `first`, the one that a whole report came with, where that is not negative. */
 static int call(enum function function, const uint8_t *bytes, size_t length, uint16_t offset, size_t out_len, size_t report_len, int first) {
-    static const char *names[] = {"fsq_encode", "fsq_list", "fsq_read", "fsq_load", "fsq_form"};
+    static const char *names[] = {"fsq_encode", "fsq_list", "fsq_read", "fsq_load", "fsq_form", "fsq_evaluate"};
     room to = function == LOAD ? image : out;
     uint8_t *o = lend(to, out_len), *r = lend(report, report_len);
     const char *wrong = NULL;
@@ -130,6 +138,7 @@ static int call(enum function function, const uint8_t *bytes, size_t length, uin
         : function == LIST ? fsq_list(bytes, length, offset, o, out_len, r, report_len)
         : function == FORM ? fsq_form(bytes, length, offset, o, out_len, r, report_len)
         : function == READ ? fsq_read(bytes, length, offset, o, out_len)
+        : function == EVALUATE ? fsq_evaluate(bytes, length, r, report_len)
         : fsq_load(bytes, length, o, out_len, r, report_len);
     int reported = function != READ && report_len >= FSQ_REPORT_LENGTH;
     calls++;
@@ -148,6 +157,8 @@ static int call(enum function function, const uint8_t *bytes, size_t length, uin
         wrong = "a length that the bytes do not have";
     else if (function == FORM && answer == FSQ_DONE && reported && (written == 0 || memchr(o, 10, written) != o + written - 1))
         wrong = "other bytes than one line with its line feed";
+    else if (function == EVALUATE && answer != FSQ_DONE && reported && fsq_get_i32(r + FSQ_REPORT_VALUE_AT) != 0)
+        wrong = "a value beside a refusal";
     if (wrong != NULL)
         failed(names[function], wrong, length, out_len, report_len, answer);
     return answer;
@@ -237,6 +248,41 @@ static void call_inline_all(enum function function, enum taken by, const uint8_t
         call_inline(function, by, bytes, nulls & 1u && nulls & 2u ? 0 : length, offset, nulls & 2u && nulls & 4u ? 0 : out_len, nulls);
 }
 
+/* The inline function beside the library's. Null are, by the bits of `nulls`, the text (with its length) and the value. */
+static void call_evaluate_text(const uint8_t *text, size_t length, unsigned nulls) {
+    size_t given = nulls & 1u ? 0 : length;
+    int32_t *value = nulls & 2u ? NULL : (int32_t *) (void *) lend(report, sizeof *value);
+    uint8_t right[FSQ_REPORT_LENGTH], number = fsq_evaluate(text, given, right, sizeof right);
+    int answer = fsq_evaluate_text(nulls & 1u ? NULL : (const char *) text, length, value);
+    const char *wrong = NULL;
+    calls++;
+    refusals += number != FSQ_DONE;
+    if (read_len != given)
+        wrong = "another length than was given";
+    else if (answer != -(int) number)
+        wrong = "another answer than the library's";
+    else if (value != NULL && number == FSQ_DONE && *value != fsq_get_i32(right + FSQ_REPORT_VALUE_AT))
+        wrong = "another value than the library's";
+    else if (value != NULL && !stays_but(report, (uint8_t *) value, number == FSQ_DONE ? sizeof *value : 0))
+        wrong = "a byte is changed that stays";
+    if (wrong != NULL)
+        failed("fsq_evaluate_text", wrong, given, 0, 0, answer);
+}
+
+/* A text of a sum, whole and with a byte changed, from 0 bytes to all of them. */
+static void evaluate_all(const char *text) {
+    size_t length = strlen(text);
+    for (size_t front = 0; front <= length; front++)
+        for (int change = 0; change < 3; change++) {
+            const uint8_t *at = lend_in((const uint8_t *) text, front, change);
+            call_all(EVALUATE, at, front, 0);
+            for (unsigned nulls = 0; nulls < 4; nulls++) {
+                call_evaluate_text(at, front, nulls);
+                call_evaluate_text(at, nulls & 1u ? 0 : front, nulls);
+            }
+        }
+}
+
 /* A record of so many bytes, or the header where the number is below 0, into a file of each length that can matter, and into none. */
 static void write_inline(room to, int number, const uint8_t *record, size_t each) {
     size_t n = number < 0 ? FSQ_HEADER_LENGTH : each, at = number < 0 ? 0 : FSQ_HEADER_LENGTH + (size_t) number * n, end = at + n;
@@ -297,6 +343,10 @@ int main(int argc, char **argv) {
     static const size_t lines[] = {0, 1, 63, 64, 65, 200};
     static const size_t record_lengths[] = {56, 56, 56, 57, 57, 57, 0, 1, 55, 58};
     static const uint8_t repeats[] = {0, 0xF2, 0xF3, 0xF3, 99};
+    static const char *const sums[] = {
+        "3*(40+2)-1", "-2147483648", "1-2147483648", "-(-(7/2)--3)*(1+(2-(3*(4/5))))", "00000000000000000000000000000000000007", "99999999999999999999",
+        "((((((((((((((((1))))))))))))))))+((2))", "(((((((((((((((((1)))))))))))))))))", "1/0-----------------1", "46340*46340/46340*-1"
+    };
     static uint8_t file[WHOLE], record_57[3 * REPEAT];
     FILE *f = argc == 2 ? fopen(argv[1], "rb") : NULL;
     size_t length = f == NULL ? 0 : fread(file, 1, sizeof file, f);
@@ -360,6 +410,8 @@ int main(int argc, char **argv) {
             for (size_t n = 0; n <= 3; n++)
                 write_show_inline(out, record, n);
         }
+    for (size_t i = 0; i < sizeof sums / sizeof *sums && count <= FSQ_SHORT_RECORDS; i++)
+        evaluate_all(sums[i]);
     for (int with = 0; with < 2; with++) {
         size_t each_of = with ? REPEAT : RECORD;
         write_inline(whole, FSQ_SHORT_RECORDS, lend_in(file + FSQ_HEADER_LENGTH, each_of, 0), each_of);

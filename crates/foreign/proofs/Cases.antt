@@ -4,7 +4,7 @@ use mathlib.Core.Path.{_≡_, refl}
 use mathlib.Core.Bool.{true}
 use mathlib.Core.List.{List, [], _∷_, _++_}
 use Prim.Native.Nat.{ℕ}
-use lib.IntN.{negsuc}
+use lib.IntN.{pos, negsuc}
 use lib.ListN.{replicate}
 use Rattle.mrc_compiler.specs.declared.ast.Segment.the-variants as G
 use Rattle.mrc_compiler.specs.declared.encoder.EncodeError.the-variants as E
@@ -20,6 +20,7 @@ use Rattle.show_file.specs.declared.LoadError.{LoadError}
 use Rattle.show_file.specs.declared.LoadError.the-variants as R
 use Rattle.show_file.specs.Refusals.{numberOf}
 use Rattle.show_load.specs.declared.Loaded.the-variants as L
+use Rattle.sum_spec.specs.declared.Answer.the-variants as A
 use Rattle.foreign_report.specs.Crossing.{u32Bytes, reportBytes}
 use Rattle.foreign_report.proofs.Cases.{span, zeros4, spanBytes, zeros12, ones4}
 use Rattle.x86_forms.specs.declared.Extension.{Extension}
@@ -33,6 +34,7 @@ use Rattle.encode_spec.specs.Layout.{layout}
 use Rattle.encode_spec.specs.Questions.{questions}
 use Rattle.encode_spec.specs.Answer.{answer}
 use Rattle.foreign.specs.EncodeRecord.{recordOf, responseOf, responseRecord}
+use Rattle.foreign.specs.EvaluateText.{responseAnswer}
 use Rattle.foreign.specs.ListRecord.{responseListing}
 use Rattle.foreign.specs.LoadShow.{responseLoadError, responseLoaded}
 use Rattle.foreign.specs.ReadBytes.{operandHead, operandValues, readBytes}
@@ -172,3 +174,15 @@ reads = record {
   jmp-far = refl;
   rep-movsb = refl;
 }
+
+-- ---- sums: the value where a refusal 5 has its, and the numbers
+record Sums : Type 0 where
+  value : reportBytes (responseAnswer (A.Worth (negsuc 124))) ≡ zeros12 ++ ((0x83 ∷ 0xFF ∷ 0xFF ∷ 0xFF ∷ []) ++ (zeros4 ++ (zeros4 ++ ones4)))
+  has-value : responseAnswer (A.Worth (pos 125)) .number ≡ 0
+  no-sum : (responseAnswer A.NoText .number ≡ 16) × (reportBytes (responseAnswer A.NoText) ≡ zeros12 ++ (zeros12 ++ ones4))
+  too-deep : responseAnswer A.TooDeep .number ≡ 17
+  out-of-range : (responseAnswer A.OutOfRange .number ≡ 18) × (reportBytes (responseAnswer A.OutOfRange) ≡ zeros12 ++ (zeros12 ++ ones4))
+
+sums : Sums
+unfolding u32Bytes
+sums = record { value = refl; has-value = refl; no-sum = (refl, refl); too-deep = refl; out-of-range = (refl, refl) }

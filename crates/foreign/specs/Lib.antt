@@ -1,4 +1,5 @@
 pub mod EncodeRecord
+pub mod EvaluateText
 pub mod ListRecord
 pub mod LoadShow
 pub mod ReadBytes

@@ -84,6 +84,18 @@ responseLength n = record {
   «record» = noRecord;
 }
 
+-- 0 with a value
+abbrev pub responseValue : ℤ → Response
+responseValue z = record {
+  number = 0;
+  length = 0;
+  span = noSpan;
+  value = z;
+  low = pos 0;
+  high = pos 0;
+  «record» = noRecord;
+}
+
 -- 0 with the number of bytes, or the refusal
 abbrev pub responseEncoded : Encoded → Response
 responseEncoded (N.Length n) = responseLength n

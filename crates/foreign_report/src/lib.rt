@@ -4,7 +4,7 @@ ghost use Prim.Native.Nat.{_+_, _≤_};
 ghost use lib.ListN.{length};
 ghost use lib.Seq.{sets};
 ghost use Rattle.mrc_compiler.specs.Values.{modZ};
-ghost use Rattle.foreign_report.specs.Crossing.{u32Bytes, threeBytes, responseLength, responseAlone, responseSpan, responseRefusal, responseEncoded, ofRecord, reportAfter};
+ghost use Rattle.foreign_report.specs.Crossing.{u32Bytes, threeBytes, responseLength, responseValue, responseAlone, responseSpan, responseRefusal, responseEncoded, ofRecord, reportAfter};
 use mrc_compiler::ast::Span;
 use mrc_compiler::encoder::EncodeError;
 use mrc_compiler::encoder::Encoded;
@@ -49,6 +49,21 @@ pub fn response_length(n: usize) -> Response
         length: (n % 4294967296) as u32,
         span: Span { start: 0, end: 0 },
         value: 0,
+        low: 0,
+        high: 0,
+        record: NO_RECORD,
+    }
+}
+
+// 0, with a value.
+pub fn response_value(value: i32) -> Response
+    ensures { λ r. ⌜ r ≡ responseValue value ⌝ }
+{
+    Response {
+        number: 0,
+        length: 0,
+        span: Span { start: 0, end: 0 },
+        value,
         low: 0,
         high: 0,
         record: NO_RECORD,

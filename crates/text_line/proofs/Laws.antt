@@ -14,7 +14,7 @@ use lib.Seq.{take-suc, take-suc-set}
 use borrow.Author.Tests.{lt-ltb}
 use Rattle.mrc_compiler.specs.Choose.{pick}
 use Rattle.text_line.specs.declared.Line.{Line}
-use Rattle.text_line.specs.Numbers.{hexByte, hexWord, hexBytes, digitFrom, decimal, signed}
+use Rattle.text_line.specs.Numbers.{hexByte, hexWord, hexBytes, digitFrom, decimal, longDecimal, sign, signed, longSigned}
 use Rattle.text_line.specs.Steps.{lineLength, emptyLine, pushed, appended}
 
 -- ---- a line grows at its end
@@ -103,10 +103,34 @@ decimal-length n =
     rw (length-append (digitFrom 10000 n), length-append (digitFrom 1000 n), length-append (digitFrom 100 n), length-append (digitFrom 10 n))
     (omega arith)
 
-pub signed-length : (z : ℤ) → length (signed z) ≤ 6
-unfolding signed
-signed-length z = go (ltZ z (pos 0))
+pub long-length : (n : ℕ) → length (longDecimal n) ≤ 10
+unfolding longDecimal
+long-length n =
+    let a = digit-length 1000000000 n in
+    let b = digit-length 100000000 n in
+    let c = digit-length 10000000 n in
+    let d = digit-length 1000000 n in
+    let e = digit-length 100000 n in
+    let f = decimal-length n in
+    rw (length-append (digitFrom 1000000000 n), length-append (digitFrom 100000000 n), length-append (digitFrom 10000000 n), length-append (digitFrom 1000000 n), length-append (digitFrom 100000 n))
+    (omega arith)
+
+sign-length : (z : ℤ) → length (sign z) ≤ 1
+unfolding sign
+sign-length z = go (ltZ z (pos 0))
   where
-    go : (t : Bool) → length (pick t (0x2D ∷ decimal (natAbs z)) (decimal (natAbs z))) ≤ 6
-    go true = let d = decimal-length (natAbs z) in omega arith
-    go false = let d = decimal-length (natAbs z) in omega arith
+    go : (t : Bool) → length {A = ℕ} (pick t (0x2D ∷ []) []) ≤ 1
+    go true = omega arith
+    go false = omega arith
+
+pub signed-length : (z : ℤ) → length (signed z) ≤ 6
+signed-length z =
+    let s = sign-length z in
+    let d = decimal-length (natAbs z) in
+    rw (length-append (sign z) (decimal (natAbs z))) (omega arith)
+
+pub long-signed-length : (z : ℤ) → length (longSigned z) ≤ 11
+long-signed-length z =
+    let s = sign-length z in
+    let d = long-length (natAbs z) in
+    rw (length-append (sign z) (longDecimal (natAbs z))) (omega arith)

@@ -35,6 +35,18 @@ blank = 0x20
 abbrev pub lineFeed : ℕ
 lineFeed = 0x0A
 
+-- below ten thousand million
+unfoldable pub longDecimal : ℕ → List ℕ
+longDecimal n =
+    digitFrom 1000000000 n
+    ++ (digitFrom 100000000 n ++ (digitFrom 10000000 n ++ (digitFrom 1000000 n ++ (digitFrom 100000 n ++ decimal n))))
+
 -- a minus before what is below 0
-unfoldable pub signed : ℤ → List ℕ
-signed z = pick (ltZ z (pos 0)) (0x2D ∷ decimal (natAbs z)) (decimal (natAbs z))
+unfoldable pub sign : ℤ → List ℕ
+sign z = pick (ltZ z (pos 0)) (0x2D ∷ []) []
+
+abbrev pub signed : ℤ → List ℕ
+signed z = sign z ++ decimal (natAbs z)
+
+abbrev pub longSigned : ℤ → List ℕ
+longSigned z = sign z ++ longDecimal (natAbs z)

@@ -3,7 +3,7 @@ ghost use mathlib.Core.Path.{_≡_};
 ghost use mathlib.Core.List.{_++_};
 ghost use Prim.Native.Nat.{_≤_};
 ghost use lib.ListN.{length, take, drop};
-ghost use Rattle.text_line.specs.Numbers.{hexDigit, hexByte, hexWord, digitFrom, decimal, signed};
+ghost use Rattle.text_line.specs.Numbers.{hexDigit, hexByte, hexWord, digitFrom, decimal, longDecimal, sign, signed, longSigned};
 ghost use Rattle.text_line.specs.Steps.{lineLength, emptyLine, pushed, appended};
 
 // A line of text: bytes and how many of them are there.
@@ -95,16 +95,39 @@ pub fn push_decimal(line: Line, n: usize) -> Line
     push(fourth, 0x30 + (n % 10) as u8)
 }
 
-// A minus and the number below 0, or the number.
+// A number of up to ten digits.
+pub fn push_long(line: Line, n: usize) -> Line
+    ensures { λ r. ⌜ r ≡ appended line (longDecimal n) ⌝ }
+{
+    let first = push_digit(line, 1000000000, n);
+    let second = push_digit(first, 100000000, n);
+    let third = push_digit(second, 10000000, n);
+    let fourth = push_digit(third, 1000000, n);
+    let fifth = push_digit(fourth, 100000, n);
+    push_decimal(fifth, n)
+}
+
+// A minus before what is below 0.
+fn push_sign(line: Line, value: i32) -> Line
+    ensures { λ r. ⌜ r ≡ appended line (sign value) ⌝ }
+{
+    if value < 0 { push(line, 0x2D) } else { line }
+}
+
+// A number of up to five digits with its sign.
 pub fn push_signed(line: Line, value: i32) -> Line
     ensures { λ r. ⌜ r ≡ appended line (signed value) ⌝ }
 {
-    let size = base_values::magnitude(value) as usize;
-    if value < 0 {
-        push_decimal(push(line, 0x2D), size)
-    } else {
-        push_decimal(line, size)
-    }
+    let signed = push_sign(line, value);
+    push_decimal(signed, base_values::magnitude(value) as usize)
+}
+
+// Any i32 with its sign.
+pub fn push_long_signed(line: Line, value: i32) -> Line
+    ensures { λ r. ⌜ r ≡ appended line (longSigned value) ⌝ }
+{
+    let signed = push_sign(line, value);
+    push_long(signed, base_values::magnitude(value) as usize)
 }
 
 // ---- the slice that it goes to

@@ -1,7 +1,7 @@
 //! Encodes Word ADD [BX],5, tells its form, reads it back, lists all of its strings, and shows a refusal with its question; then REP MOVSB, encoded and
-//! read.
+//! read; and evaluates a sum.
 
-use fsq::{encode, form, list, read, Base, Instruction, Operand, Operation, Refusal, Repeat};
+use fsq::{encode, evaluate, form, list, read, Base, Instruction, Operand, Operation, Refusal, Repeat};
 
 fn main() -> Result<(), Refusal> {
     let add = Instruction::two(Operation::ADD, Operand::memory(Base::BX, 0).word(), 5);
@@ -24,5 +24,8 @@ fn main() -> Result<(), Refusal> {
     let bytes = encode(&copy, 256)?;
     println!("encoded: {bytes}");
     println!("read: {}", read(&bytes, 256)?);
+
+    let delay = "3*(40+2)-1";
+    println!("{delay} is {}", evaluate(delay)?);
     Ok(())
 }

@@ -32,6 +32,7 @@ extern "C" {
     ) -> u8;
     pub fn fsq_read(bytes: *const u8, bytes_len: usize, offset: u16, out: *mut u8, out_len: usize) -> u8;
     pub fn fsq_load(file: *const u8, file_len: usize, image: *mut u8, image_len: usize, report: *mut u8, report_len: usize) -> u8;
+    pub fn fsq_evaluate(text: *const u8, text_len: usize, report: *mut u8, report_len: usize) -> u8;
 }
 
 // enum fsq_answer
@@ -51,6 +52,9 @@ pub const FSQ_NO_MARK: u8 = 12;
 pub const FSQ_WRONG_VERSION: u8 = 13;
 pub const FSQ_WRONG_LENGTH: u8 = 14;
 pub const FSQ_UNKNOWN_CODE: u8 = 15;
+pub const FSQ_NOT_A_SUM: u8 = 16;
+pub const FSQ_TOO_DEEP: u8 = 17;
+pub const FSQ_VALUE_OUT_OF_RANGE: u8 = 18;
 pub const FSQ_INVALID_REPEAT: u8 = 23;
 
 // enum fsq_length
@@ -71,6 +75,7 @@ pub const FSQ_FILE_LENGTH: usize = 456009;
 pub const FSQ_MOST_RECORDS: u16 = 8000;
 pub const FSQ_SHORT_RECORDS: u16 = 1000;
 pub const FSQ_MOST_ENTRIES: u16 = 12;
+pub const FSQ_MOST_DEPTH: u16 = 16;
 pub const FSQ_FILE_VERSION: u16 = 1;
 pub const FSQ_LONG_VERSION: u16 = 2;
 pub const FSQ_REPEAT_VERSION: u16 = 3;

@@ -1,5 +1,5 @@
 //! The proved 8086 encoder for show files: an instruction becomes bytes or one refusal, bytes become an instruction, an instruction the list of
-//! all its byte strings, and a show file the image of its records.
+//! all its byte strings, a show file the image of its records, and a sum its value.
 //!
 //! ```
 //! use fsq::{encode, list, read, Base, Instruction, Operand, Operation};
@@ -49,6 +49,14 @@
 //! # Ok::<(), fsq::Refusal>(())
 //! ```
 //!
+//! [`evaluate`] gives the value of a sum, as delays are written:
+//!
+//! ```
+//! // Document 02, No. 6.
+//! assert_eq!(fsq::evaluate("3*(40+2)-1")?, 125);
+//! # Ok::<(), fsq::Refusal>(())
+//! ```
+//!
 //! The functions keep nothing between calls, and several threads may call them at once. They are proved; the text of instructions and operands
 //! is not.
 //!
@@ -75,6 +83,7 @@ mod operation;
 mod reading;
 mod refusal;
 mod show;
+mod sum;
 mod text;
 
 pub use encoding::{encode, encode_record, Bytes};
@@ -88,6 +97,7 @@ pub use refusal::{Found, Reason, Refusal};
 #[cfg(feature = "alloc")]
 pub use show::{load, show_file};
 pub use show::{Record, Records, Show};
+pub use sum::evaluate;
 pub use text::ParseError;
 
 /// The examples of README.md.

@@ -4,9 +4,9 @@
 //! functions write nothing outside of them, and only what a call's contract says.
 
 use crate::bindings::{
-    fsq_encode, fsq_form, fsq_list, fsq_load, fsq_read, FSQ_DONE, FSQ_FORM_LENGTH, FSQ_HEADER_LENGTH, FSQ_INVALID_REPEAT, FSQ_NO_RECORD,
-    FSQ_READING_LENGTH, FSQ_REPORT_HIGH_AT, FSQ_REPORT_LENGTH, FSQ_REPORT_LENGTH_AT, FSQ_REPORT_LOW_AT, FSQ_REPORT_RECORD_AT,
-    FSQ_REPORT_SPAN_END_AT, FSQ_REPORT_SPAN_START_AT, FSQ_REPORT_VALUE_AT, FSQ_SLICE_TOO_SHORT, FSQ_STRING_LENGTH,
+    fsq_encode, fsq_evaluate, fsq_form, fsq_list, fsq_load, fsq_read, FSQ_DONE, FSQ_FORM_LENGTH, FSQ_HEADER_LENGTH, FSQ_INVALID_REPEAT,
+    FSQ_NO_RECORD, FSQ_READING_LENGTH, FSQ_REPORT_HIGH_AT, FSQ_REPORT_LENGTH, FSQ_REPORT_LENGTH_AT, FSQ_REPORT_LOW_AT,
+    FSQ_REPORT_RECORD_AT, FSQ_REPORT_SPAN_END_AT, FSQ_REPORT_SPAN_START_AT, FSQ_REPORT_VALUE_AT, FSQ_SLICE_TOO_SHORT, FSQ_STRING_LENGTH,
 };
 use crate::refusal::{question_of, Found, Reason, Refusal};
 use crate::show::record_length;
@@ -70,6 +70,17 @@ pub fn load(file: &[u8], image: &mut [u8]) -> Result<usize, Refusal> {
         let record = refusal.record.and_then(|record| file.get(at(record)..at(record + 1)));
         Refusal { found: Found::in_file(number, record, file), question: record.and_then(|record| question_of(number, record)), ..refusal }
     })
+}
+
+/// The value of a sum.
+pub fn evaluate(text: &[u8]) -> Result<i32, Refusal> {
+    let mut report = [0; FSQ_REPORT_LENGTH];
+    // SAFETY: as in read.
+    let number = unsafe { fsq_evaluate(text.as_ptr(), text.len(), report.as_mut_ptr(), report.len()) };
+    match number {
+        FSQ_DONE => Ok(field(&report, FSQ_REPORT_VALUE_AT) as i32),
+        _ => Err(refused(number, &report)),
+    }
 }
 
 fn field(report: &Report, at: usize) -> u32 {

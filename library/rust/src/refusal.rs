@@ -51,6 +51,12 @@ pub enum Reason {
     WrongLength,
     /// 15: a record has an operation, kind, size or jump kind that does not exist.
     UnknownCode,
+    /// 16: the text is not a sum, as [`evaluate`](crate::evaluate) has it.
+    NotASum,
+    /// 17: the sum is more than 16 brackets deep.
+    TooDeep,
+    /// 18: a value on the way is no `i32`, or a divisor is 0.
+    ValueOutOfRange,
     /// 23: the repeat is neither F2 nor F3, or the operation is no string operation and has one.
     InvalidRepeat,
     /// Another number: one that the library has and this crate does not know.
@@ -231,7 +237,7 @@ pub(crate) fn question_of(number: u8, record: &[u8]) -> Option<u8> {
 }
 
 impl Reason {
-    /// The number: 1 to 15, 23, or another of a later library.
+    /// The number: 1 to 18, 23, or another of a later library.
     pub fn number(&self) -> u8 {
         match self {
             Reason::InvalidOperands => FSQ_INVALID_OPERANDS,
@@ -249,6 +255,9 @@ impl Reason {
             Reason::WrongVersion => FSQ_WRONG_VERSION,
             Reason::WrongLength => FSQ_WRONG_LENGTH,
             Reason::UnknownCode => FSQ_UNKNOWN_CODE,
+            Reason::NotASum => FSQ_NOT_A_SUM,
+            Reason::TooDeep => FSQ_TOO_DEEP,
+            Reason::ValueOutOfRange => FSQ_VALUE_OUT_OF_RANGE,
             Reason::InvalidRepeat => FSQ_INVALID_REPEAT,
             Reason::Other(number) => *number,
         }
@@ -272,6 +281,9 @@ impl Reason {
             FSQ_WRONG_VERSION => Reason::WrongVersion,
             FSQ_WRONG_LENGTH => Reason::WrongLength,
             FSQ_UNKNOWN_CODE => Reason::UnknownCode,
+            FSQ_NOT_A_SUM => Reason::NotASum,
+            FSQ_TOO_DEEP => Reason::TooDeep,
+            FSQ_VALUE_OUT_OF_RANGE => Reason::ValueOutOfRange,
             FSQ_INVALID_REPEAT => Reason::InvalidRepeat,
             other => Reason::Other(other),
         }
@@ -298,6 +310,9 @@ impl fmt::Display for Reason {
             }
             Reason::WrongLength => f.write_str("the length is not the one that the show file or record has to have"),
             Reason::UnknownCode => f.write_str("an operation, kind, size or jump kind does not exist"),
+            Reason::NotASum => f.write_str("the text is not a sum of decimal numbers, + - * / and brackets, without blanks"),
+            Reason::TooDeep => write!(f, "the sum is more than {FSQ_MOST_DEPTH} brackets deep"),
+            Reason::ValueOutOfRange => write!(f, "a value on the way is outside {}..{}, or a divisor is 0", i32::MIN, i32::MAX),
             Reason::InvalidRepeat => f.write_str("the repeat is neither REP nor REPNE, or the operation takes none"),
             Reason::Other(number) => write!(f, "the reason {number}, which this crate does not know"),
         }
