@@ -16,6 +16,7 @@ use Rattle.x86.specs.declared.Read.the-variants.{Whole, Nothing, More}
 use Rattle.x86.specs.Reading.{mode, low, displacementLength, reads}
 use Rattle.x86.specs.Listing.{Bytes, ReadsAs, Among, here, later, IsListing}
 use Rattle.x86.proofs.Tests.{both-left, both-right}
+use Rattle.x86.proofs.Among.{at-among}
 use Rattle.x86.proofs.Extend.{no-bytes, one-more}
 use Rattle.x86.proofs.Sizes.{read-size}
 use Rattle.encode_spec.specs.Layout.{wordBytes, prefixBytes}
@@ -201,12 +202,6 @@ module _ (off : ℕ) (m : Instruction) where
       two (Among (s i)) (readsAs off m (s n)) (insertBy key (s n) (among off m n)) (among off m n)
       (λ _. insert-old (s i) (s n) (among off m n) (among-in i n l t)) (among-in i n l t))
       (eq-or-lt-of-le (le-of-suc-le-suc h))
-
--- ---- order
-at-among : (l : List (List ℕ)) (i : ℕ) → i < length l → Among (getD l i []) l
-at-among [] i h = absurd (omega arith)
-at-among (s ∷ l) zero h = here
-at-among (s ∷ l) (suc i) h = later (at-among l i (omega arith))
 
 -- ---- demand 3 for every instruction
 pub listing-is : (off : ℕ) (m : Instruction) → off < 65536 → IsListing off m (listing off m)

@@ -21,7 +21,8 @@ use Rattle.show_file.specs.Show.{header, insnAt}
 use Rattle.show_file.specs.Refusals.{numberOf}
 use Rattle.show_load.specs.declared.Loaded.the-variants as L
 use Rattle.show_load.specs.Loading.{offsetBehind, answerAt, bytesOf, walk, bytesIn, isAll, accepted}
-use Rattle.show_load.proofs.Laws.{Upto, upto-start, ran, step-all, answer-at-short, Front, front-start, front-next, lent}
+use Rattle.base_values.proofs.Fronts.{Front, front-start, front-next, lent}
+use Rattle.show_load.proofs.Laws.{Upto, upto-start, ran, step-all, answer-at-short}
 use Rattle.text_line.specs.declared.Line.{Line}
 use Rattle.text_line.specs.Numbers.{blank, lineFeed, hexWord, hexBytes, decimal}
 use Rattle.text_line.specs.Steps.{lineLength, emptyLine, pushed, appended}

@@ -22,7 +22,8 @@ use Rattle.show_file.specs.Refusals.{numberOf}
 use Rattle.show_load.specs.declared.Loaded.{Loaded}
 use Rattle.show_load.specs.declared.Loaded.the-variants as L
 use Rattle.show_load.specs.Loading.{Walk, all, stopped, offsetBehind, answerAt, followed, further, walk, measured, showAccepted, acceptedBy, accepted, fitted}
-use Rattle.show_load.proofs.Laws.{accepted-image, within-seven, Front, front-is, front-next, lent, lent-length}
+use Rattle.base_values.proofs.Fronts.{Front, front-is, front-next, lent, lent-length}
+use Rattle.show_load.proofs.Laws.{accepted-image, within-seven}
 use Rattle.text_line.specs.declared.Line.{Line}
 use Rattle.text_line.specs.Steps.{lineLength, emptyLine, appended}
 use Rattle.show_text.specs.Text.{firstLine, refusedLine, linesOf, textRecords, imageLength, showText, refusedGround, textBy, text, mostLine, mostRecord, mostText, listed}

@@ -8,3 +8,4 @@ pub mod Sizes
 pub mod Rows
 pub mod Unread
 pub mod Orders
+pub mod Among

@@ -1,4 +1,5 @@
-use Rattle.show_load.proofs.Laws.{Upto, upto-start, step-all, step-in, Front, front-start, front-next, lent-length}
+use Rattle.base_values.proofs.Fronts.{Front, front-start, front-next, lent-length}
+use Rattle.show_load.proofs.Laws.{Upto, upto-start, step-all, step-in}
 use Rattle.show_load.specs.Loading.{walk, bytesIn}
 use borrow.Author.Needs.{needs}
 use denote.Ref.{now}

@@ -1,4 +1,5 @@
-use Rattle.show_load.proofs.Laws.{ran, within-seven, lent-length}
+use Rattle.base_values.proofs.Fronts.{lent-length}
+use Rattle.show_load.proofs.Laws.{ran, within-seven}
 use Rattle.show_text.proofs.Laws.{Lines, lines-start, lines-in, text-short, text-in-line, lines-more}
 use borrow.Author.Needs.{needs}
 use denote.Ref.{now}

@@ -1,0 +1,4 @@
+pub mod Short
+pub mod Text
+pub mod Complete
+pub mod Steps
