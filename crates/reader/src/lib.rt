@@ -389,7 +389,10 @@ fn read_repeated(repeat: u8, c: u8) -> Decoded
             first: Operand::None,
             second: Operand::None,
         },
-        FormName { opcode: c, extension: Extension::None },
+        FormName {
+            opcode: c,
+            extension: Extension::None,
+        },
         2,
     )
 }

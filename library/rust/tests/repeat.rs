@@ -220,32 +220,6 @@ fn a_record_field_by_field() {
     assert_eq!(Instruction::from_record(&short), Ok(without));
 }
 
-/// Each code of a record of 57 bytes one above its highest: 15, with its place in that record.
-#[test]
-fn codes_of_a_record() {
-    let record = Instruction::none(MOVSB).repeated(Repeat::Rep).to_repeat_record();
-    let codes = [
-        (0, 99, "operation"),
-        (11, 4, "kind"),
-        (12, 3, "size"),
-        (14, 3, "displacement size"),
-        (15, 4, "jump kind"),
-        (34, 4, "kind"),
-        (35, 3, "size"),
-        (37, 3, "displacement size"),
-        (38, 4, "jump kind"),
-    ];
-    for (at, value, name) in codes {
-        let mut changed = record;
-        changed[at] = value;
-        let refusal = encode_record(&changed, 0).unwrap_err();
-        let text = format!("refusal 15: {name} {value}, at byte {at} of the record, is outside 0..{}", value - 1);
-        assert_eq!((refusal.reason, refusal.to_string()), (Reason::UnknownCode, text));
-        assert_eq!(refusal.found, Some(Found::Code { name, at, value, high: value - 1 }));
-        assert_eq!(Instruction::from_record(&changed), Err(refusal));
-    }
-}
-
 /// The question of 4 is by the first operand's size, which stands a byte further here.
 #[test]
 fn the_question_of_4() {

@@ -212,30 +212,33 @@ fn what_a_refused_file_has() {
     assert_eq!(said(&with(9 + 56 + 37, 4)), (Some(Found::Code { name: "jump kind", at: 37, value: 4, high: 3 }), code.into()));
 }
 
-/// Each code of REFERENCE 8 one above its highest: 15, the same for a record and for its instruction.
+/// Each code of REFERENCE 8 one above its highest: 15, the same for a record and for its instruction. In a record of 57 bytes all but the first stand a byte further.
 #[test]
 fn what_a_refused_record_has() {
-    let record = Instruction::two(MOV, AX, 4660).to_record();
+    let instruction = Instruction::two(MOV, AX, 4660);
+    let record = instruction.to_record();
     let codes = [
-        (0, 99, "operation"),
-        (10, 4, "kind"),
-        (11, 3, "size"),
-        (13, 3, "displacement size"),
-        (14, 4, "jump kind"),
-        (33, 4, "kind"),
-        (34, 3, "size"),
-        (36, 3, "displacement size"),
-        (37, 4, "jump kind"),
+        (0, 0, 99, "operation"),
+        (10, 11, 4, "kind"),
+        (11, 12, 3, "size"),
+        (13, 14, 3, "displacement size"),
+        (14, 15, 4, "jump kind"),
+        (33, 34, 4, "kind"),
+        (34, 35, 3, "size"),
+        (36, 37, 3, "displacement size"),
+        (37, 38, 4, "jump kind"),
     ];
-    for (at, value, name) in codes {
-        let mut changed = record;
-        changed[at] = value;
-        let refusal = encode_record(&changed, 0).unwrap_err();
-        let text = format!("refusal 15: {name} {value}, at byte {at} of the record, is outside 0..{}", value - 1);
-        assert_eq!((refusal.reason, refusal.to_string()), (Reason::UnknownCode, text));
-        assert_eq!(Instruction::from_record(&changed), Err(refusal));
-        changed[at] = value - 1;
-        assert!(Instruction::from_record(&changed).is_ok());
+    for (short, long, value, name) in codes {
+        for (mut changed, at) in [(record.to_vec(), short), (instruction.to_repeat_record().to_vec(), long)] {
+            changed[at] = value;
+            let refusal = encode_record(&changed, 0).unwrap_err();
+            let text = format!("refusal 15: {name} {value}, at byte {at} of the record, is outside 0..{}", value - 1);
+            assert_eq!((refusal.reason, refusal.to_string()), (Reason::UnknownCode, text));
+            assert_eq!(refusal.found, Some(Found::Code { name, at, value, high: value - 1 }));
+            assert_eq!(Instruction::from_record(&changed), Err(refusal));
+            changed[at] = value - 1;
+            assert!(Instruction::from_record(&changed).is_ok());
+        }
     }
     for length in [0, 55] {
         let refusal = encode_record(&record[..length], 0).unwrap_err();

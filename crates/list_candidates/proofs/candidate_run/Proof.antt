@@ -18,9 +18,9 @@ unfolding candidate
 plain c =
     let a = c .before .before .before .before .before .args in
     let p = ⊎-elim {C = c .before .if2 .prefix ≡ pick (ltb (a .i) 6) 0 (prefixOf (a .insn))}
-      (λ w. rw (lt-ltb (a .i) 6 (w .0 .taken)) (w .1))
-      (λ w. rw (le-ltb (a .i) 6 (w .0 .left)) (w .2 ∙ w .1 .ensures))
-      (c .before .if2 .came) in
+    (λ w. rw (lt-ltb (a .i) 6 (w .0 .taken)) (w .1))
+    (λ w. rw (le-ltb (a .i) 6 (w .0 .left)) (w .2 ∙ w .1 .ensures))
+    (c .before .if2 .came) in
     rw (eq-eqb _ _ (c .before .before .if1 .left)) (rw (p, c .before .before .before .before .start-of .ensures) at (c .string-run .ensures))
 
 pub candidate-run-spec : {M : Type 1} → statement M
