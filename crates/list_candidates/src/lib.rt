@@ -3,69 +3,12 @@ ghost use mathlib.Core.Path.{_≡_};
 ghost use Prim.Native.Nat.{_%_, _/_, _≤_};
 ghost use Rattle.encode_spec.specs.Layout.{wordBytes, prefixBytes};
 ghost use Rattle.encode_run.specs.Run.{emptyRun, appended};
-ghost use Rattle.list_spec.specs.Operands.{prefixIn, prefixOf, displacementOf, valueOf, farSegmentOf};
-ghost use Rattle.list_spec.specs.Candidates.{byteOf, displacementBytes, secondBytes, distance, tailBytes, stringOf, repeatedString, candidate};
+ghost use Rattle.list_spec.specs.Candidates.{byteOf, displacementBytes, secondBytes, distance, tailBytes, stringOf, repeatedString, candidateOf};
 use encode_run::ByteRun;
+use list_spec::Parts;
 use list_spec::Second;
 use list_spec::Start;
 use list_spec::Tail;
-use mrc_compiler::encoder::segment_prefix_for;
-use x86::Instruction;
-use x86::Operand;
-use x86::operands::displacement_in;
-use x86::operands::far_segment_in;
-use x86::operands::value_in;
-
-// ---- the numbers of an instruction
-
-// The prefix of the segment that memory is in; 0 for another operand.
-pub fn prefix_in(oper: Operand) -> u8
-    ensures { λ r. ⌜ r ≡ prefixIn oper ⌝ }
-{
-    match oper {
-        Operand::None => 0,
-        Operand::Register(_) => 0,
-        Operand::SegmentRegister(_) => 0,
-        Operand::Memory(_, _, s) => segment_prefix_for(s),
-        Operand::Immediate(_) => 0,
-        Operand::Near(_) => 0,
-        Operand::Far(_, _) => 0,
-        Operand::One => 0,
-    }
-}
-
-// The sum is the number of the operand that has one.
-pub fn prefix_of(insn: Instruction) -> u8
-    ensures { λ r. ⌜ r ≡ prefixOf insn ⌝ }
-{
-    let a = insn.first;
-    let b = insn.second;
-    std::num::wrapping_add_u8(prefix_in(a), prefix_in(b))
-}
-
-fn displacement_of(insn: Instruction) -> u16
-    ensures { λ r. ⌜ r ≡ displacementOf insn ⌝ }
-{
-    let a = insn.first;
-    let b = insn.second;
-    std::num::wrapping_add_u16(displacement_in(a), displacement_in(b))
-}
-
-fn value_of(insn: Instruction) -> u16
-    ensures { λ r. ⌜ r ≡ valueOf insn ⌝ }
-{
-    let a = insn.first;
-    let b = insn.second;
-    std::num::wrapping_add_u16(value_in(a), value_in(b))
-}
-
-fn far_segment_of(insn: Instruction) -> u16
-    ensures { λ r. ⌜ r ≡ farSegmentOf insn ⌝ }
-{
-    let a = insn.first;
-    let b = insn.second;
-    std::num::wrapping_add_u16(far_segment_in(a), far_segment_in(b))
-}
 
 // ---- the bytes
 
@@ -161,14 +104,14 @@ fn push_opcode(run: ByteRun, opcode: u8) -> ByteRun
     encode_run::push(run, opcode)
 }
 
-// The string of an instruction with a prefix (0: none) and a start.
-fn string_run(offset: u16, prefix: u8, start: Start, insn: Instruction) -> ByteRun
-    ensures { λ r. ⌜ r ≡ appended emptyRun (stringOf offset prefix start insn) ⌝ }
+// The string of an instruction with a prefix (0: none), a start and its values.
+fn string_run(offset: u16, prefix: u8, start: Start, parts: Parts) -> ByteRun
+    ensures { λ r. ⌜ r ≡ appended emptyRun (stringOf offset prefix start parts) ⌝ }
 {
     let opcode = start.opcode;
     let second = start.second;
     let tail = start.tail;
-    let displacement = displacement_of(insn);
+    let displacement = parts.displacement;
     let prefixed = push_prefix(encode_run::empty_run(), prefix);
     let coded = push_opcode(prefixed, opcode);
     let moded = push_second(coded, second, displacement);
@@ -177,8 +120,8 @@ fn string_run(offset: u16, prefix: u8, start: Start, insn: Instruction) -> ByteR
         tail,
         offset,
         displacement,
-        value_of(insn),
-        far_segment_of(insn),
+        parts.value,
+        parts.segment,
     )
 }
 
@@ -189,14 +132,14 @@ fn repeated_run(repeat: u8, opcode: u8) -> ByteRun
     push_opcode(push_opcode(encode_run::empty_run(), repeat), opcode)
 }
 
-// Candidate i, below 12.
-pub fn candidate_run(offset: u16, insn: Instruction, i: u8) -> ByteRun
-    ensures { λ r. ⌜ r ≡ appended emptyRun (candidate offset insn i) ⌝ }
+// Candidate i, below 12, of an instruction by its parts.
+pub fn candidate_run(offset: u16, parts: Parts, i: u8) -> ByteRun
+    ensures { λ r. ⌜ r ≡ appended emptyRun (candidateOf offset parts i) ⌝ }
 {
-    let start = list_starts::start_of(insn, i / 3 % 2, i % 3);
-    if insn.repeat != 0 {
-        return repeated_run(insn.repeat, start.opcode);
+    let start = list_starts::start_of(parts, i / 3 % 2, i % 3);
+    if parts.repeat != 0 {
+        return repeated_run(parts.repeat, start.opcode);
     }
-    let prefix = if i < 6 { 0 } else { prefix_of(insn) };
-    string_run(offset, prefix, start, insn)
+    let prefix = if i < 6 { 0 } else { parts.prefix };
+    string_run(offset, prefix, start, parts)
 }

@@ -3,7 +3,7 @@ ghost use mathlib.Core.Path.{_≡_};
 ghost use lib.Dec.{eqb};
 ghost use Rattle.mrc_compiler.specs.Choose.{both};
 ghost use Rattle.list_spec.specs.Operands.{sameType, sameMemory, sameValue, sameOperand, sameInstruction};
-use list_candidates::prefix_in;
+use list_parts::prefix_in;
 use x86::Instruction;
 use x86::Operand;
 use x86::operands::OperandType;

@@ -22,8 +22,9 @@ use Rattle.encode_spec.specs.Meaning.{meant, meaning}
 use Rattle.encode_groups.specs.Grouping.{groupedOf}
 use Rattle.list_spec.specs.Operands.{sameOperand, sameInstruction}
 use Rattle.list_spec.specs.Starts.{arithmeticImmediate, arithmetic, moveImmediate, move, exchange, testImmediate, test, stack, ret, jump, single, startIn, startOf}
-use Rattle.list_spec.specs.Candidates.{stringOf, candidate}
-use Rattle.list_spec.specs.Entries.{entry, spelled, key, isWhole, readsAs, insertBy, among, listing}
+use Rattle.list_spec.specs.Possible.{isAccumulator, isAddress, modeFor, modeFits, withAlternate, immediateFits, arithmeticFits, moveAlternate, exchangeFits, encodingFits, startFits, possible}
+use Rattle.list_spec.specs.Candidates.{stringOf, candidateOf}
+use Rattle.list_spec.specs.Entries.{entry, spelled, key, isWhole, readsAs, isListed, insertBy, among, listing}
 
 abbrev span : Span
 span = record { start = 1; end = 9 }
@@ -94,7 +95,7 @@ pub record Rows (off : ℕ) : Type 0 where
       ≡ listed off Op.TEST (registerOperand span 1 S.Byte) (indirectOperand span 7 (pos 0) OD.None OG.None)
 
 pub rows : (off : ℕ) → Rows off
-unfolding forms canonical startingWith readForm prefix readPlain isRepeat repeats reads counted meant groupedOf sameOperand sameInstruction arithmeticImmediate arithmetic moveImmediate move exchange testImmediate test stack ret jump single startIn startOf stringOf candidate entry spelled key isWhole readsAs insertBy among isString numberOf
+unfolding forms canonical startingWith readForm prefix readPlain isRepeat repeats reads counted meant groupedOf sameOperand sameInstruction arithmeticImmediate arithmetic moveImmediate move exchange testImmediate test stack ret jump single startIn startOf stringOf candidateOf entry spelled key isWhole readsAs isListed insertBy among isAccumulator isAddress modeFor modeFits withAlternate immediateFits arithmeticFits moveAlternate exchangeFits encodingFits startFits possible isString numberOf
 rows off = record {
   rep = refl;
   repne = refl;

@@ -27,10 +27,12 @@ use Rattle.list_spec.specs.declared.Tail.the-variants as L
 use Rattle.list_spec.specs.declared.Start.{Start}
 use Rattle.list_spec.specs.Operands.{prefixOf, displacementOf, valueOf, farSegmentOf, sameInstruction}
 use Rattle.list_spec.specs.Starts.{startOf}
-use Rattle.list_spec.specs.Candidates.{byteOf, displacementBytes, secondBytes, distance, tailBytes, stringOf, candidate}
-use Rattle.list_spec.specs.Entries.{key, isWhole, readsAs, insertBy, among, listing}
+use Rattle.list_spec.specs.Candidates.{byteOf, displacementBytes, secondBytes, distance, tailBytes, stringOf, candidateOf, candidate}
+use Rattle.list_spec.specs.Parts.{partsOf}
+use Rattle.list_spec.specs.Possible.{possible}
+use Rattle.list_spec.specs.Entries.{key, isWhole, readsAs, isListed, insertBy, among, listing}
 use Rattle.list_spec.proofs.Choices.{picked, both-true}
-use Rattle.list_spec.proofs.Insertion.{three, Rising, insert-rising, insert-length, rising-at}
+use Rattle.list_spec.proofs.Insertion.{three, Over, Rising, insert-rising, insert-length, rising-at}
 use Rattle.list_spec.proofs.Same.{instruction-eq, instruction-same}
 use Rattle.list_spec.proofs.Order.{append-bytes, key-before}
 use Rattle.list_spec.proofs.Digits.{key-same}
@@ -78,7 +80,7 @@ tail-bytes L.Near16 off d v s hd hv hs = word-bytes (distance v off 3) (omega ar
 tail-bytes L.Far off d v s hd hv hs = append-bytes (wordBytes v) (wordBytes s) (word-bytes v hv) (word-bytes s hs)
 tail-bytes L.Address off d v s hd hv hs = word-bytes d hd
 
-string-bytes : (off p : ℕ) (s : Start) (m : Instruction) → p < 256 → Bytes (stringOf off p s m)
+string-bytes : (off p : ℕ) (s : Start) (m : Instruction) → p < 256 → Bytes (stringOf off p s (partsOf m))
 unfolding stringOf
 string-bytes off p s m h =
     let d = displacementOf m in
@@ -88,12 +90,12 @@ string-bytes off p s m h =
     (one-more (s .opcode % 256) (second ++ tail) (omega arith)
     (append-bytes second tail (second-bytes (s .second) d (omega arith)) (tail-bytes (s .tail) off d (valueOf m) (farSegmentOf m) (omega arith) (omega arith) (omega arith))))
 
-candidate-bytes : (off : ℕ) (m : Instruction) (i : ℕ) → Bytes (candidate off m i)
-unfolding candidate
+pub candidate-bytes : (off : ℕ) (m : Instruction) (i : ℕ) → Bytes (candidate off m i)
+unfolding candidateOf
 candidate-bytes off m i =
     picked Bytes (eqb (m .repeat) 0)
-    (string-bytes off (pick (ltb i 6) 0 (prefixOf m)) (startOf m (i / 3 % 2) (i % 3)) m (picked (λ (n : ℕ). n < 256) (ltb i 6) (omega arith) (omega arith)))
-    (append-bytes (byteOf (m .repeat)) (byteOf (startOf m (i / 3 % 2) (i % 3) .opcode)) (byte-bytes (m .repeat)) (byte-bytes (startOf m (i / 3 % 2) (i % 3) .opcode)))
+    (string-bytes off (pick (ltb i 6) 0 (prefixOf m)) (startOf (partsOf m) (i / 3 % 2) (i % 3)) m (picked (λ (n : ℕ). n < 256) (ltb i 6) (omega arith) (omega arith)))
+    (append-bytes (byteOf (m .repeat)) (byteOf (startOf (partsOf m) (i / 3 % 2) (i % 3) .opcode)) (byte-bytes (m .repeat)) (byte-bytes (startOf (partsOf m) (i / 3 % 2) (i % 3) .opcode)))
 
 -- ---- a string that the listing may have
 pub record Listed (off : ℕ) (m : Instruction) (s : List ℕ) : Type 0 where
@@ -105,9 +107,11 @@ pub record Listed (off : ℕ) (m : Instruction) (s : List ℕ) : Type 0 where
 listed : (off : ℕ) (m : Instruction) (s : List ℕ) → Bytes s → ReadsAs off m s → Listed off m s
 listed off m s bs e = let (a, b) = read-size off s m (length s) e in record { reads-it = e; are-bytes = bs; some = a; short = b }
 
-pub candidate-listed : (off : ℕ) (m : Instruction) (i : ℕ) → T (readsAs off m (candidate off m i)) → Listed off m (candidate off m i)
-unfolding readsAs
-candidate-listed off m i t = listed off m (candidate off m i) (candidate-bytes off m i) (whole-is (reads off (candidate off m i)) m (length (candidate off m i)) t)
+pub candidate-listed : (off : ℕ) (m : Instruction) (i : ℕ) → T (isListed off m i) → Listed off m (candidate off m i)
+unfolding isListed readsAs
+candidate-listed off m i t =
+    let s = candidate off m i in
+    listed off m s (candidate-bytes off m i) (whole-is (reads off s) m (length s) (both-right (possible (partsOf m) i) (readsAs off m s) t))
 
 -- ---- standing in a list
 cases : {s t : List ℕ} {l : List (List ℕ)} → Among s (t ∷ l) → (s ≡ t) ⊎ Among s l
@@ -168,20 +172,20 @@ module _ (off : ℕ) (m : Instruction) where
   unfolding among
   among-rising zero = tt
   among-rising (suc n) =
-      two (Rising key) (readsAs off m (s n)) (insertBy key (s n) (among off m n)) (among off m n) (λ _. insert-rising key (s n) (among off m n) (among-rising n)) (among-rising n)
+      two (Rising key) (isListed off m n) (insertBy key (s n) (among off m n)) (among off m n) (λ _. insert-rising key (s n) (among off m n) (among-rising n)) (among-rising n)
 
   among-length : (n : ℕ) → length (among off m n) ≤ n
   unfolding among
   among-length zero = zero-le
   among-length (suc n) =
-      two (λ (l : List (List ℕ)). length l ≤ suc n) (readsAs off m (s n)) (insertBy key (s n) (among off m n)) (among off m n)
+      two (λ (l : List (List ℕ)). length l ≤ suc n) (isListed off m n) (insertBy key (s n) (among off m n)) (among off m n)
       (λ _. omega (arith, insert-length key (s n) (among off m n), among-length n)) (omega (arith, among-length n))
 
   pub among-only : (t : List ℕ) (n : ℕ) → Among t (among off m n) → Listed off m t
   unfolding among
   among-only t zero = λ a. absurd (nowhere a)
   among-only t (suc n) =
-      two (λ (l : List (List ℕ)). Among t l → Listed off m t) (readsAs off m (s n)) (insertBy key (s n) (among off m n)) (among off m n)
+      two (λ (l : List (List ℕ)). Among t l → Listed off m t) (isListed off m n) (insertBy key (s n) (among off m n)) (among off m n)
       (λ q a. ⊎-elim (λ e. subst (Listed off m) (sym e) (candidate-listed off m n q)) (λ b. among-only t n b) (insert-only t (s n) (among off m n) a))
       (λ a. among-only t n a)
 
@@ -189,29 +193,44 @@ module _ (off : ℕ) (m : Instruction) where
   same-string : (t : List ℕ) (n : ℕ) → Listed off m t → (u : List ℕ) → Among u (among off m n) → key t ≡ key u → t ≡ u
   same-string t n l u a e = let k = among-only u n a in key-same t u (l .short) (k .short) (l .are-bytes) (k .are-bytes) e
 
-  among-in : (i n : ℕ) → i < n → T (readsAs off m (s i)) → Among (s i) (among off m n)
+  among-in : (i n : ℕ) → i < n → T (isListed off m i) → Among (s i) (among off m n)
   unfolding among
   among-in i zero h t = absurd (not-suc-le-zero h)
   among-in i (suc n) h t =
       ⊎-elim
       (λ (e : i ≡ n).
-      subst (λ (j : ℕ). Among (s i) (pick (readsAs off m (s j)) (insertBy key (s j) (among off m n)) (among off m n))) e
-      (yes (Among (s i)) (readsAs off m (s i)) (insertBy key (s i) (among off m n)) (among off m n) t
+      subst (λ (j : ℕ). Among (s i) (pick (isListed off m j) (insertBy key (s j) (among off m n)) (among off m n))) e
+      (yes (Among (s i)) (isListed off m i) (insertBy key (s i) (among off m n)) (among off m n) t
       (insert-here (s i) (among off m n) (same-string (s i) n (candidate-listed off m i t)))))
       (λ l.
-      two (Among (s i)) (readsAs off m (s n)) (insertBy key (s n) (among off m n)) (among off m n)
+      two (Among (s i)) (isListed off m n) (insertBy key (s n) (among off m n)) (among off m n)
       (λ _. insert-old (s i) (s n) (among off m n) (among-in i n l t)) (among-in i n l t))
       (eq-or-lt-of-le (le-of-suc-le-suc h))
 
+-- ---- what reads as m is a listed candidate
+pub record SomeCandidate (off : ℕ) (m : Instruction) (s : List ℕ) : Type 0 where
+  pub i : ℕ
+  pub below : i < 12
+  pub is : s ≡ candidate off m i
+  pub listed : T (isListed off m i)
+
+pub some-candidate : (off : ℕ) (m : Instruction) → off < 65536 → (s : List ℕ) → Bytes s → ReadsAs off m s → SomeCandidate off m s
+unfolding isListed readsAs
+some-candidate off m h s bs e =
+    let f = none-missing off s m h bs e in
+    let r : T (readsAs off m (candidate off m (f .i))) = subst (λ (u : List ℕ). T (isWhole (reads off u) m (length u))) (f .is) (is-whole (reads off s) m (length s) e) in
+    record { i = f .i; below = f .below; is = f .is; listed = both-true (possible (partsOf m) (f .i)) (readsAs off m (candidate off m (f .i))) (f .can) r }
+
+pub listed-in : (off : ℕ) (m : Instruction) → off < 65536 → (s : List ℕ) → Bytes s → ReadsAs off m s → Among s (listing off m)
+listed-in off m h s bs e =
+    let c = some-candidate off m h s bs e in
+    subst (λ (u : List ℕ). Among u (listing off m)) (sym (c .is)) (among-in off m (c .i) 12 (c .below) (c .listed))
+
 -- ---- demand 3 for every instruction
 pub listing-is : (off : ℕ) (m : Instruction) → off < 65536 → IsListing off m (listing off m)
-unfolding readsAs
 listing-is off m h =
     record {
-      none-missing = λ s bs one seven e.
-          let f = none-missing off s m h bs e in
-          let t : T (readsAs off m (candidate off m (f .i))) = subst (λ (u : List ℕ). T (isWhole (reads off u) m (length u))) (f .is) (is-whole (reads off s) m (length s) e) in
-          subst (λ (u : List ℕ). Among u (listing off m)) (sym (f .is)) (among-in off m (f .i) 12 (f .below) t);
+      none-missing = λ s bs one seven e. listed-in off m h s bs e;
       none-beside = λ s a. let l = among-only off m s 12 a in (l .are-bytes, l .some, l .short, l .reads-it);
       in-order = λ i j k l.
           let a = among-only off m (getD (listing off m) i []) 12 (at-among (listing off m) i (omega arith)) in
@@ -223,3 +242,23 @@ listing-is off m h =
 -- twelve at most
 pub few : (off : ℕ) (m : Instruction) → length (listing off m) ≤ 12
 few off m = among-length off m 12
+
+-- ---- the first
+over-lower : (s b : List ℕ) (l : List (List ℕ)) → Over key s l → Among b l → key s < key b
+over-lower s b [] o a = absurd (nowhere a)
+over-lower s b (t ∷ l) o a =
+    ⊎-elim (λ (e : b ≡ t). subst (λ (u : List ℕ). key s < key u) (sym e) (o .0)) (λ r. let k = over-lower t b l (o .1) r in let j = o .0 in omega arith) (cases a)
+
+lowest : (b : List ℕ) (l : List (List ℕ)) → Rising key l → Among b l → key (getD l 0 []) ≤ key b
+lowest b [] r a = absurd (nowhere a)
+lowest b (t ∷ l) r a =
+    ⊎-elim (λ (e : b ≡ t). subst (λ (u : List ℕ). key t ≤ key u) (sym e) (omega arith)) (λ i. let k = over-lower t b l r i in omega arith) (cases a)
+
+-- a list with a string has a first
+pub first-of-some : (b : List ℕ) (l : List (List ℕ)) → Among b l → Among (getD l 0 []) l
+first-of-some b [] a = absurd (nowhere a)
+first-of-some b (t ∷ l) a = here
+
+-- its number is the lowest
+pub first-lowest : (off : ℕ) (m : Instruction) (b : List ℕ) → Among b (listing off m) → key (getD (listing off m) 0 []) ≤ key b
+first-lowest off m b a = lowest b (listing off m) (among-rising off m 12) a

@@ -5,6 +5,7 @@ pub mod Covered
 pub mod Values
 pub mod Sums
 pub mod Behind
+pub mod Possible
 pub mod Written
 pub mod Found
 pub mod Order

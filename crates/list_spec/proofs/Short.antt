@@ -13,17 +13,17 @@ use Rattle.x86.specs.Reading.{mode, low, displacementLength}
 use Rattle.encode_spec.specs.Layout.{prefixBytes}
 use Rattle.encode_groups.specs.declared.Group.{Group}
 use Rattle.encode_groups.specs.declared.Group.the-variants as Gr
-use Rattle.encode_groups.specs.Grouping.{groupedOf}
 use Rattle.x86.specs.declared.operands.OperandType.{OperandType}
 use Rattle.list_spec.specs.declared.Second.{Second}
 use Rattle.list_spec.specs.declared.Second.the-variants as X
 use Rattle.list_spec.specs.declared.Tail.{Tail}
 use Rattle.list_spec.specs.declared.Tail.the-variants as L
 use Rattle.list_spec.specs.declared.Start.{Start}
-use Rattle.x86.specs.Operands.{aRegister, aSegment, inMemory, anImmediate, aNear, aFar, typeOf}
-use Rattle.list_spec.specs.Operands.{prefixOf, displacementOf, valueOf, farSegmentOf}
+use Rattle.x86.specs.Operands.{aRegister, aSegment, inMemory, anImmediate, aNear, aFar}
+use Rattle.list_spec.specs.declared.Parts.{Parts}
+use Rattle.list_spec.specs.Parts.{partsOf}
 use Rattle.list_spec.specs.Starts.{primary, bare, sized, immediate, plus, withRm, arithmeticImmediate, arithmetic, unary, incDec, moveImmediate, moveFrom, moveInto, move, exchange, testImmediate, test, stack, ret, load, shift, call, jump, single, port, startIn, startOf}
-use Rattle.list_spec.specs.Candidates.{displacementBytes, secondBytes, tailBytes, stringOf, candidate}
+use Rattle.list_spec.specs.Candidates.{displacementBytes, secondBytes, tailBytes, stringOf, candidateOf, candidate}
 use Rattle.list_spec.proofs.Choices.{picked}
 
 -- the most bytes that a second byte has with its displacement
@@ -94,10 +94,9 @@ module _ (n : ℕ) (w : OperandSize) (a b : OperandType) (encoding k : ℕ) wher
   in-group Gr.Out = picked Few (eqb (a .kind) anImmediate) (lit≤ tt) (lit≤ tt)
   in-group Gr.Unsupported = lit≤ tt
 
-start-most : (m : Instruction) (encoding k : ℕ) → most (startOf m encoding k) ≤ 5
+start-most : (q : Parts) (encoding k : ℕ) → most (startOf q encoding k) ≤ 5
 unfolding startOf
-start-most m encoding k =
-    in-group (groupedOf (m .operation) .base) (m .width) (typeOf (m .first)) (typeOf (m .second)) encoding k (groupedOf (m .operation) .group)
+start-most q encoding k = in-group (q .base) (q .width) (q .first) (q .second) encoding k (q .group)
 
 -- ---- lengths
 abbrev Within : ℕ → List ℕ → Type 0
@@ -121,18 +120,19 @@ tail-short L.Near16 off d v s = lit≤ tt
 tail-short L.Far off d v s = lit≤ tt
 tail-short L.Address off d v s = lit≤ tt
 
-string-short : (off p : ℕ) (s : Start) (m : Instruction) → most s ≤ 5 → length (stringOf off p s m) ≤ 7
+string-short : (off p : ℕ) (s : Start) (q : Parts) → most s ≤ 5 → length (stringOf off p s q) ≤ 7
 unfolding stringOf
-string-short off p s m h =
-    let d = displacementOf m in
+string-short off p s q h =
+    let d = q .displacement in
     let x = secondBytes (s .second) d in
-    let t = tailBytes (s .tail) off d (valueOf m) (farSegmentOf m) in
+    let t = tailBytes (s .tail) off d (q .value) (q .segment) in
     let e = length-append (prefixBytes p) (s .opcode % 256 ∷ (x ++ t)) in
     let f = length-append x t in
-    omega (arith, e, f, picked (Within 1) (eqb p 0) {s = []} {t = p ∷ []} (lit≤ tt) (lit≤ tt), second-short (s .second) d, tail-short (s .tail) off d (valueOf m) (farSegmentOf m))
+    omega (arith, e, f, picked (Within 1) (eqb p 0) {s = []} {t = p ∷ []} (lit≤ tt) (lit≤ tt), second-short (s .second) d, tail-short (s .tail) off d (q .value) (q .segment))
 
 pub candidate-short : (off : ℕ) (m : Instruction) (i : ℕ) → length (candidate off m i) ≤ 7
-unfolding candidate
+unfolding candidateOf
 candidate-short off m i =
-    picked (Within 7) (eqb (m .repeat) 0)
-    (string-short off (pick (ltb i 6) 0 (prefixOf m)) (startOf m (i / 3 % 2) (i % 3)) m (start-most m (i / 3 % 2) (i % 3))) (lit≤ tt)
+    let q = partsOf m in
+    picked (Within 7) (eqb (q .repeat) 0)
+    (string-short off (pick (ltb i 6) 0 (q .prefix)) (startOf q (i / 3 % 2) (i % 3)) q (start-most q (i / 3 % 2) (i % 3))) (lit≤ tt)

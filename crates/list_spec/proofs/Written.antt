@@ -6,24 +6,26 @@ use native.Mathlib.Omega.{arith}
 use mathlib.Core.Bool.{Bool, true, false}
 use mathlib.Core.Logic.{_⊎_, inl, inr}
 use mathlib.Core.List.{List, [], _∷_, _++_, List·Memᴰ, List·Memᴰ·head}
-use lib.Dec.{T, eqb, leb, eqb·suc-zero}
+use lib.Dec.{T, eqb, ltb, leb, eqb·suc-zero}
 use lib.ListN.{length, length-append}
 use Rattle.mrc_compiler.specs.Choose.{pick, either}
 use Rattle.x86.specs.declared.Instruction.{Instruction}
 use Rattle.x86.specs.declared.Read.the-variants.{Whole, Nothing, More}
 use Rattle.x86.specs.Forms.{Form, forms}
-use Rattle.x86.specs.Reading.{fits, some, startingWith, fitting, hasSecond, headLength, tailLength, namesMemory, mayNameMemory, instructionOf, readForm, readFirst, readSecond, readOpcode, prefix, readPlain}
+use Rattle.x86.specs.Reading.{fits, some, startingWith, fitting, hasSecond, headLength, memoryLength, tailLength, displacementAt, namesMemory, mayNameMemory, instructionOf, readForm, readFirst, readSecond, readOpcode, prefix, readPlain}
 use Rattle.x86.specs.Listing.{Bytes}
 use Rattle.x86.proofs.Tests.{kept, some-false}
 use Rattle.x86.proofs.Unambiguous.{second-agrees}
 use Rattle.x86.proofs.ByForm.{more-not-whole, nothing-not-whole, pick-whole, in-forms}
 use Rattle.encode_spec.specs.Layout.{prefixBytes}
 use Rattle.list_spec.specs.declared.Start.{Start}
-use Rattle.list_spec.specs.Operands.{prefixOf}
+use Rattle.list_spec.specs.Operands.{prefixOf, displacementOf}
+use Rattle.list_spec.specs.Parts.{isShort, partsOf}
 use Rattle.list_spec.specs.Candidates.{stringOf}
 use Rattle.list_spec.proofs.ByForm.{startBy}
-use Rattle.list_spec.proofs.Covered.{chosen, with-second, without-second}
-use Rattle.list_spec.proofs.Behind.{prefix-is, behind-start}
+use Rattle.list_spec.proofs.Covered.{chosen, chosenBy, with-second, without-second}
+use Rattle.list_spec.proofs.Behind.{displacement-is, prefix-is, behind-start}
+use Rattle.list_spec.proofs.Possible.{no-bytes, short-bytes}
 
 -- ---- inversion of the reading
 -- the form, opcode and second byte by which the bytes s behind the prefix p were read, and the bytes t behind them
@@ -38,7 +40,7 @@ record Parsed (off p : ℕ) (s : List ℕ) (m : Instruction) (n : ℕ) : Type 0 
   pub c-byte : c < 256
   pub x-byte : x < 256
   pub t-bytes : Bytes t
-  pub found : T (chosen (instructionOf off p f c x t) (startBy f c x))
+  pub found : T (chosenBy (instructionOf off p f c x t) f c x)
 
 first-by : (off p c x : ℕ) (t : List ℕ) (fs : List Form) {m : Instruction} {n : ℕ} → readFirst off p c x t fs ≡ Whole m n
     → (f : Form) × (gs : List Form) × (fs ≡ f ∷ gs) × (readForm off p c x t f ≡ Whole m n)
@@ -127,8 +129,13 @@ second-length false x t = omega arith
 pub record Written (off : ℕ) (s : List ℕ) (m : Instruction) : Type 0 where
   pub p : ℕ
   pub start : Start
-  pub is : s ≡ stringOf off p start m
-  pub is-chosen : T (chosen m start)
+  pub is : s ≡ stringOf off p start (partsOf m)
+  -- the displacement has no bytes; one at most
+  pub zero : Bool
+  pub short : Bool
+  pub is-zero : T zero → T (eqb (displacementOf m) 0)
+  pub is-short : T short → T (isShort (displacementOf m))
+  pub is-chosen : T (chosen m zero short start)
   pub prefix-none : (p ≡ 0) ⊎ (p ≡ prefixOf m)
 
 -- no prefix, or a prefix byte
@@ -153,13 +160,18 @@ from-parsed off p s₀ s m e h front r =
     let lt : length t ≡ tailLength f x = omega (arith, prefix-length p, second-length (hasSecond (f .extension)) x t) in
     let b = behind-start off p c x t f (r .listed) h (r .t-bytes) lt o (r .x-byte) in
     let z : c ≡ c % 256 = omega (arith, r .c-byte) in
+    let i : displacementOf m ≡ displacementAt (memoryLength f x) t = sym (ap displacementOf d) ∙ displacement-is off p c x t f (r .listed) (r .t-bytes) in
     record {
       p = p;
       start = startBy f c x;
       is =
           whole ∙ (ap₂ (λ (k : ℕ) (l : List ℕ). prefixBytes p ++ (k ∷ l)) z b
-          ∙ ap (λ (m : Instruction). stringOf off p (startBy f c x) m) d);
-      is-chosen = subst (λ (m : Instruction). T (chosen m (startBy f c x))) d (r .found);
+          ∙ ap (λ (m : Instruction). stringOf off p (startBy f c x) (partsOf m)) d);
+      zero = eqb (memoryLength f x) 0;
+      short = ltb (memoryLength f x) 2;
+      is-zero = λ h. subst (λ (k : ℕ). T (eqb k 0)) (sym i) (no-bytes (memoryLength f x) t h);
+      is-short = λ h. subst (λ (k : ℕ). T (isShort k)) (sym i) (short-bytes (memoryLength f x) t (r .t-bytes) h);
+      is-chosen = subst (λ (m : Instruction). T (chosenBy m f c x)) d (r .found);
       prefix-none = segment front o d;
     }
   where

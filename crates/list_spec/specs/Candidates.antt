@@ -13,7 +13,8 @@ use Rattle.list_spec.specs.declared.Second.the-variants as X
 use Rattle.list_spec.specs.declared.Tail.{Tail}
 use Rattle.list_spec.specs.declared.Tail.the-variants as L
 use Rattle.list_spec.specs.declared.Start.{Start}
-use Rattle.list_spec.specs.Operands.{prefixOf, displacementOf, valueOf, farSegmentOf}
+use Rattle.list_spec.specs.declared.Parts.{Parts}
+use Rattle.list_spec.specs.Parts.{partsOf}
 use Rattle.list_spec.specs.Starts.{startOf}
 
 abbrev pub byteOf : ℕ → List ℕ
@@ -43,19 +44,22 @@ tailBytes L.Near16 off d v s = wordBytes (distance v off 3)
 tailBytes L.Far off d v s = wordBytes v ++ wordBytes s
 tailBytes L.Address off d v s = wordBytes d
 
--- the string of m at an offset with a prefix and a start
-unfoldable pub stringOf : ℕ → ℕ → Start → Instruction → List ℕ
-stringOf off p s m =
+-- the string at an offset with a prefix, a start and the values of the parts q
+unfoldable pub stringOf : ℕ → ℕ → Start → Parts → List ℕ
+stringOf off p s q =
     prefixBytes p
     ++ (s .opcode % 256
-    ∷ (secondBytes (s .second) (displacementOf m) ++ tailBytes (s .tail) off (displacementOf m) (valueOf m) (farSegmentOf m)))
+    ∷ (secondBytes (s .second) (q .displacement) ++ tailBytes (s .tail) off (q .displacement) (q .value) (q .segment)))
 
 -- with a repeat: it and the opcode
 abbrev pub repeatedString : ℕ → ℕ → List ℕ
 repeatedString repeat opcode = byteOf repeat ++ byteOf opcode
 
 -- candidate i, below 12
-unfoldable pub candidate : ℕ → Instruction → ℕ → List ℕ
-candidate off m i =
-    let s = startOf m (i / 3 % 2) (i % 3) in
-    pick (eqb (m .repeat) 0) (stringOf off (pick (ltb i 6) 0 (prefixOf m)) s m) (repeatedString (m .repeat) (s .opcode))
+unfoldable pub candidateOf : ℕ → Parts → ℕ → List ℕ
+candidateOf off q i =
+    let s = startOf q (i / 3 % 2) (i % 3) in
+    pick (eqb (q .repeat) 0) (stringOf off (pick (ltb i 6) 0 (q .prefix)) s q) (repeatedString (q .repeat) (s .opcode))
+
+abbrev pub candidate : ℕ → Instruction → ℕ → List ℕ
+candidate off m i = candidateOf off (partsOf m) i

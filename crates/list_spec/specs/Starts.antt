@@ -6,17 +6,16 @@ use Prim.Native.Nat.{ℕ, _+_, _*_, _/_, _%_}
 use lib.Dec.{eqb}
 use Rattle.mrc_compiler.specs.declared.encoder.OperandSize.{OperandSize}
 use Rattle.mrc_compiler.specs.Choose.{pick, both, bySize}
-use Rattle.x86.specs.declared.Instruction.{Instruction}
 use Rattle.encode_groups.specs.declared.Group.{Group}
 use Rattle.encode_groups.specs.declared.Group.the-variants as Gr
-use Rattle.encode_groups.specs.Grouping.{groupedOf}
 use Rattle.x86.specs.declared.operands.OperandType.{OperandType}
 use Rattle.list_spec.specs.declared.Second.{Second}
 use Rattle.list_spec.specs.declared.Second.the-variants as X
 use Rattle.list_spec.specs.declared.Tail.{Tail}
 use Rattle.list_spec.specs.declared.Tail.the-variants as L
 use Rattle.list_spec.specs.declared.Start.{Start}
-use Rattle.x86.specs.Operands.{aRegister, aSegment, inMemory, anImmediate, aNear, aFar, typeOf}
+use Rattle.list_spec.specs.declared.Parts.{Parts}
+use Rattle.x86.specs.Operands.{aRegister, aSegment, inMemory, anImmediate, aNear, aFar}
 
 -- the first of the two encodings; any other number is the alternate
 abbrev pub primary : ℕ
@@ -173,8 +172,6 @@ startIn Gr.In n w a b encoding mode = port w b 0xE4 0xE5 0xEC 0xED
 startIn Gr.Out n w a b encoding mode = port w a 0xE6 0xE7 0xEE 0xEF
 startIn Gr.Unsupported n w a b encoding mode = bare 0 L.None
 
--- the start of an instruction, by encoding and mode
-unfoldable pub startOf : Instruction → ℕ → ℕ → Start
-startOf m encoding mode =
-    let g = groupedOf (m .operation) in
-    startIn (g .group) (g .base) (m .width) (typeOf (m .first)) (typeOf (m .second)) encoding mode
+-- the start of an instruction with parts q, by encoding and mode
+unfoldable pub startOf : Parts → ℕ → ℕ → Start
+startOf q encoding mode = startIn (q .group) (q .base) (q .width) (q .first) (q .second) encoding mode

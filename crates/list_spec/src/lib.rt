@@ -1,4 +1,7 @@
 // The listing of demand 3 as definitions and theorems, and the values that its code hands on.
+use encode_groups::Group;
+use mrc_compiler::encoder::OperandSize;
+use x86::operands::OperandType;
 
 // The byte behind an opcode.
 pub enum Second {
@@ -35,4 +38,26 @@ pub struct Start {
     pub opcode: u8,
     pub second: Second,
     pub tail: Tail,
+}
+
+// What of an instruction its strings are made of.
+pub struct Parts {
+    pub repeat: u8,
+
+    // Its operation's group of the code list, and the number that the group's forms start from.
+    pub group: Group,
+    pub base: u8,
+    pub width: OperandSize,
+    pub first: OperandType,
+    pub second: OperandType,
+
+    // Of the segment that memory is in; 0 without memory.
+    pub prefix: u8,
+    pub displacement: u16,
+
+    // Is the displacement 0? Is it -128 to 127?
+    pub zero: bool,
+    pub short: bool,
+    pub value: u16,
+    pub segment: u16,
 }

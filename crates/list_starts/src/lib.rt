@@ -4,11 +4,11 @@ ghost use Rattle.list_spec.specs.declared.Second.the-variants.{Fixed};
 ghost use Rattle.list_spec.specs.declared.Tail.the-variants.{None};
 ghost use Rattle.list_spec.specs.Starts.{start, bare, sized, immediate, plus, modrm, withRm, arithmeticImmediate, arithmetic, unary, incDec, moveImmediate, moveFrom, moveInto, move, exchange, testImmediate, test, stack, ret, load, shift, call, jump, single, port, startIn, startOf};
 use encode_groups::Group;
+use list_spec::Parts;
 use list_spec::Second;
 use list_spec::Start;
 use list_spec::Tail;
 use mrc_compiler::encoder::OperandSize;
-use x86::Instruction;
 use x86::operands::FAR;
 use x86::operands::IMMEDIATE;
 use x86::operands::MEMORY;
@@ -16,7 +16,6 @@ use x86::operands::NEAR;
 use x86::operands::OperandType;
 use x86::operands::REGISTER;
 use x86::operands::SEGMENT_REGISTER;
-use x86::operands::type_of;
 
 // The first of an instruction's two encodings; the other is the alternate encoding.
 const PRIMARY: u8 = 0;
@@ -458,17 +457,12 @@ fn start_in(
 }
 
 // The start of an instruction, by encoding and mode.
-pub fn start_of(insn: Instruction, encoding: u8, mode: u8) -> Start
-    ensures { λ r. ⌜ r ≡ startOf insn encoding mode ⌝ }
+pub fn start_of(parts: Parts, encoding: u8, mode: u8) -> Start
+    ensures { λ r. ⌜ r ≡ startOf parts encoding mode ⌝ }
 {
-    let operation = insn.operation;
-    let grouped = encode_groups::group_of(operation);
-    let group = grouped.group;
-    let base = grouped.base;
-    let width = insn.width;
-    let first = insn.first;
-    let second = insn.second;
-    let a = type_of(first);
-    let b = type_of(second);
-    start_in(group, base, width, a, b, encoding, mode)
+    let group = parts.group;
+    let width = parts.width;
+    let first = parts.first;
+    let second = parts.second;
+    start_in(group, parts.base, width, first, second, encoding, mode)
 }

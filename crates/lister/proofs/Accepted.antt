@@ -39,12 +39,12 @@ module _ (insn : InstructionData) (off : ℕ) (h : off < 65536) (done : Emitted)
   is-refused x q = refused-of (answer insn off) x (sym (ap (λ (d : Emitted). d .refusal) e) ∙ q)
 
   module _ (q : done .refusal ≡ R.None) where
-    accepted : (bs : List ℕ) × (answer insn off ≡ bytes bs) × (done .run ≡ appended emptyRun bs)
+    pub accepted : (bs : List ℕ) × (answer insn off ≡ bytes bs) × (done .run ≡ appended emptyRun bs)
     accepted =
         let (bs, a, r) = bytes-of (answer insn off) (sym (ap (λ (d : Emitted). d .refusal) e) ∙ q) in
         (bs, a, ap (λ (d : Emitted). d .run) e ∙ r)
 
-    held : Holds (done .run) (accepted .0)
+    pub held : Holds (done .run) (accepted .0)
     held = subst (λ (r : ByteRun). Holds r (accepted .0)) (sym (accepted .2)) (holds (accepted .0) (accepted-reads insn off h (accepted .0) (accepted .1) .short))
 
     -- the run has at most seven bytes

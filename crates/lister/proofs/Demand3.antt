@@ -14,7 +14,7 @@ use Rattle.mrc_compiler.specs.declared.encoder.EncodeError.the-variants as E
 use Rattle.mrc_compiler.specs.declared.encoder.InstructionData.{InstructionData}
 use Rattle.mrc_compiler.specs.Choose.{pick}
 use Rattle.x86.specs.Listing.{Among, here, later, Before}
-use Rattle.x86.proofs.Among.{at-among}
+use Rattle.x86.proofs.Among.{at-among, place}
 use Rattle.encode_spec.specs.Meaning.{meaning}
 use Rattle.encode_spec.specs.Answer.{Answer, bytes, refused, answer}
 use Rattle.list_spec.specs.Entries.{entry, entries, listing}
@@ -56,11 +56,6 @@ unfolding entry
 same-string s t e =
     sym (take-append-seam s (replicate (7 - length s) 0))
     ∙ (ap (λ (l : List ℕ). take (getD l 0 0) (drop 1 l)) e ∙ take-append-seam t (replicate (7 - length t) 0))
-
--- the place of a string in a list
-place : (s : List ℕ) (l : List (List ℕ)) → Among s l → (i : ℕ) × (i < length l) × (getD l i [] ≡ s)
-place s (t ∷ l) here = (0, omega arith, refl)
-place s (t ∷ l) (later a) = let (i, h, e) = place s l a in (suc i, omega arith, e)
 
 -- ---- the slice
 module _ (insn : InstructionData) (off : ℕ) (bs before : List ℕ) (x : Lists insn off bs) where

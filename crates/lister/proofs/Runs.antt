@@ -1,7 +1,7 @@
 -- The run of a candidate holds its string and spells its number.
 -- Assumes nothing.
 use mathlib.Core.Path.{_≡_, refl, sym, _∙_, ap, subst}
-use Prim.Native.Nat.{ℕ, _+_, _-_, _/_, _%_, _≤_, _<_}
+use Prim.Native.Nat.{ℕ, _+_, _≤_, _<_}
 use native.Mathlib.Omega.{arith}
 use native.Mathlib.Nat.{eq-or-lt-of-le, le-of-suc-le-suc}
 use native.Mathlib.Numerals.{add-one}
@@ -10,15 +10,15 @@ use mathlib.Core.Bool.{Bool, true, false}
 use mathlib.Core.List.{List, [], _∷_}
 use lib.ListN.{length, getD, set, take}
 use lib.Seq.{getD-set-same, getD-set-other}
-use borrow.Author.Tests.{lt-ltb, le-ltb}
 use Rattle.x86.specs.declared.Instruction.{Instruction}
-use Rattle.x86.specs.declared.Read.{Read}
 use Rattle.x86.specs.Reading.{reads}
 use Rattle.encode_run.specs.declared.ByteRun.{ByteRun}
 use Rattle.encode_run.specs.Run.{emptyRun, appended}
-use Rattle.list_spec.specs.Operands.{prefixOf}
-use Rattle.list_spec.specs.Candidates.{candidate}
-use Rattle.list_spec.specs.Entries.{entry, spelled, key, isWhole, readsAs, candidateKey}
+use Rattle.list_spec.specs.declared.Parts.{Parts}
+use Rattle.list_spec.specs.Parts.{partsOf}
+use Rattle.list_spec.specs.Possible.{possible}
+use Rattle.list_spec.specs.Candidates.{candidateOf, candidate}
+use Rattle.list_spec.specs.Entries.{entry, spelled, key, isWhole, readsAs, isListed, candidateKey}
 use Rattle.list_spec.proofs.Short.{candidate-short}
 use Rattle.lister.specs.Runs.{keyOf}
 
@@ -41,40 +41,38 @@ holds (a ∷ b ∷ c ∷ d ∷ e ∷ f ∷ g ∷ []) h = record { length-is = re
 holds (a ∷ b ∷ c ∷ d ∷ e ∷ f ∷ g ∷ x ∷ s) h = absurd (omega arith)
 
 -- ---- the number of a candidate, from the code's steps
+-- the parts are the instruction's
+pub candidate-is : (off : ℕ) (m : Instruction) (q : Parts) (i : ℕ) (run : ByteRun) → q ≡ partsOf m → run ≡ appended emptyRun (candidateOf off q i)
+    → run ≡ appended emptyRun (candidate off m i)
+candidate-is off m q i run e r = r ∙ ap (λ (q : Parts). appended emptyRun (candidateOf off q i)) e
+
+pub possible-is : (m : Instruction) (q : Parts) (i : ℕ) (b : Bool) {v : Bool} → q ≡ partsOf m → b ≡ possible q i → b ≡ v → possible (partsOf m) i ≡ v
+possible-is m q i b e p h = sym (ap (λ (q : Parts). possible q i) e) ∙ (sym p ∙ h)
+
 module _ (off : ℕ) (m : Instruction) (i : ℕ) (run : ByteRun) (e : run ≡ appended emptyRun (candidate off m i)) where
-  held : Holds run (candidate off m i)
+  pub held : Holds run (candidate off m i)
   held = subst (λ (r : ByteRun). Holds r (candidate off m i)) (sym e) (holds (candidate off m i) (candidate-short off m i))
 
   pub run-short : run .len ≤ 7
   run-short = omega (arith, held .length-is, candidate-short off m i)
 
-  test-is : (r : Read) (b : Bool) → r ≡ reads off (take (run .len) (run .bytes)) → b ≡ isWhole r m (run .len) → readsAs off m (candidate off m i) ≡ b
+  pub test-is : (b : Bool) → b ≡ isWhole (reads off (take (run .len) (run .bytes))) m (run .len) → readsAs off m (candidate off m i) ≡ b
   unfolding readsAs
-  test-is r b er eb =
-      let h = held in
-      sym (eb ∙ (ap (λ (q : Read). isWhole q m (run .len)) (er ∙ ap (reads off) (h .bytes-are)) ∙ ap (isWhole (reads off (candidate off m i)) m) (h .length-is)))
+  test-is b eb = let h = held in sym (eb ∙ (ap (λ (s : List ℕ). isWhole (reads off s) m (run .len)) (h .bytes-are) ∙ ap (isWhole (reads off (candidate off m i)) m) (h .length-is)))
 
-  pub key-yes : (r : Read) (b : Bool) (v : ℕ) → r ≡ reads off (take (run .len) (run .bytes)) → b ≡ isWhole r m (run .len) → b ≡ true → v ≡ keyOf run
+  pub key-yes : (b : Bool) (v : ℕ) → possible (partsOf m) i ≡ true → b ≡ isWhole (reads off (take (run .len) (run .bytes))) m (run .len) → b ≡ true → v ≡ keyOf run
       → v ≡ candidateKey off m i
-  key-yes r b v er eb t ev = rw (test-is r b er eb ∙ t) (ev ∙ held .key-are)
+  unfolding isListed
+  key-yes b v p eb t ev = rw (p, test-is b eb ∙ t) (ev ∙ held .key-are)
 
-  pub key-no : (r : Read) (b : Bool) → r ≡ reads off (take (run .len) (run .bytes)) → b ≡ isWhole r m (run .len) → b ≡ false → 0 ≡ candidateKey off m i
-  key-no r b er eb t = rw (test-is r b er eb ∙ t)
+  pub key-no : (b : Bool) → possible (partsOf m) i ≡ true → b ≡ isWhole (reads off (take (run .len) (run .bytes))) m (run .len) → b ≡ false → 0 ≡ candidateKey off m i
+  unfolding isListed
+  key-no b p eb t = rw (p, test-is b eb ∙ t)
 
--- ---- without a prefix the last six candidates are the first six
--- so many numbers are to be computed: twelve, or, without a prefix, at least six
-abbrev pub Enough : Instruction → ℕ → Type 0
-Enough m most = (6 ≤ most) × (most < 12 → prefixOf m ≡ 0)
-
-again : (off : ℕ) (m : Instruction) (i : ℕ) → 6 ≤ i → i < 12 → prefixOf m ≡ 0 → candidate off m (i - 6) ≡ candidate off m i
-unfolding candidate
-again off m i h l e =
-    let a : (i - 6) / 3 % 2 ≡ i / 3 % 2 = omega arith in
-    let b : (i - 6) % 3 ≡ i % 3 = omega arith in
-    rw (le-ltb i 6 h, lt-ltb (i - 6) 6 (omega arith), a, b, e) refl
-
-pub key-again : (off : ℕ) (m : Instruction) (i : ℕ) → 6 ≤ i → i < 12 → prefixOf m ≡ 0 → candidateKey off m (i - 6) ≡ candidateKey off m i
-key-again off m i h l e = rw (again off m i h l e) refl
+-- what cannot be the instruction's
+pub key-none : (off : ℕ) (m : Instruction) (i : ℕ) → possible (partsOf m) i ≡ false → 0 ≡ candidateKey off m i
+unfolding isListed
+key-none off m i p = rw p
 
 -- ---- the numbers of the first n candidates
 abbrev pub Filled : ℕ → Instruction → List ℕ → ℕ → Type 0

@@ -5,11 +5,13 @@ ghost use Prim.Native.Nat.{_*_, _<_, _≤_};
 ghost use lib.ListN.{length, take, drop, getD};
 ghost use Rattle.x86.specs.Reading.{reads};
 ghost use Rattle.encode_spec.specs.Answer.{answer};
+ghost use Rattle.list_spec.specs.Parts.{partsOf};
 ghost use Rattle.list_spec.specs.Entries.{isWhole, candidateKey, listing, entries};
 ghost use Rattle.lister.specs.Runs.{keyOf};
 ghost use Rattle.lister.specs.Listing.{listingOf, outcome, sliceAfter};
 use encode_fields::Refusal;
 use encode_run::ByteRun;
+use list_spec::Parts;
 use mrc_compiler::encoder::EncodeError;
 use mrc_compiler::encoder::InstructionData;
 use x86::Instruction;
@@ -30,7 +32,7 @@ fn byte_at(run: ByteRun, i: usize) -> u8
 }
 
 // The number that the entry of a run spells.
-fn key_of(run: ByteRun) -> u64
+pub fn key_of(run: ByteRun) -> u64
     requires { ⌜ run .len ≤ 7 ⌝ }
     ensures { λ r. ⌜ r ≡ keyOf run ⌝ }
 {
@@ -68,38 +70,48 @@ fn is_whole(read: Read, insn: Instruction, n: usize) -> bool
     }
 }
 
-// The number of candidate i, 0 where it does not read as the instruction.
-fn candidate_key(offset: u16, insn: Instruction, i: u8) -> u64
-    ensures { λ r. ⌜ r ≡ candidateKey offset insn i ⌝ }
+// What a run reads as.
+pub fn read_run(run: ByteRun, offset: u16) -> Read
+    requires { ⌜ run .len ≤ 7 ⌝ }
+    ensures { λ r. ⌜ r ≡ reads offset (take (run .len) (run .bytes)) ⌝ }
 {
-    let run = list_candidates::candidate_run(offset, insn, i);
     let bytes = run.bytes;
     let n = run.len;
-    if is_whole(reader::read_at(&bytes[..n], offset), insn, n) {
-        return key_of(run);
+    reader::read_at(&bytes[..n], offset)
+}
+
+// Does a run read, to the last byte, as the instruction?
+pub fn is_run_of(run: ByteRun, offset: u16, insn: Instruction) -> bool
+    requires { ⌜ run .len ≤ 7 ⌝ }
+    ensures { λ r. ⌜ r ≡ isWhole (reads offset (take (run .len) (run .bytes))) insn (run .len) ⌝ }
+{
+    is_whole(read_run(run, offset), insn, run.len)
+}
+
+// The number of candidate i, 0 where it does not read as the instruction.
+fn candidate_key(offset: u16, insn: Instruction, parts: Parts, i: u8) -> u64
+    requires { ⌜ parts ≡ partsOf insn ⌝ }
+    ensures { λ r. ⌜ r ≡ candidateKey offset insn i ⌝ }
+{
+    if list_possible::is_possible(parts, i) {
+        let run = list_candidates::candidate_run(offset, parts, i);
+        if is_run_of(run, offset, insn) {
+            return key_of(run);
+        }
     }
     0
 }
 
-// Writes the listing of an instruction at an offset, and answers how many entries it has. Twelve strings are read, or six where no prefix is possible: then
-// the other six are the same.
+// Writes the listing of an instruction at an offset, and answers how many entries it has.
 fn list_instruction(offset: u16, insn: Instruction, out: &mut [u8]) -> usize
     requires { ⌜ 96 ≤ length (now out) ⌝ }
     ensures { λ r. ⌜ (r ≡ length (listing offset insn)) × (now (out .exit) ≡ entries (listing offset insn) ++ drop (8 * length (listing offset insn)) (now (out .entry))) ⌝ }
 {
+    let parts = list_parts::parts_of(insn);
     let mut keys: [u64; 12] = [0, 0, 0, 0, 0, 0, 0, 0, 0, 0, 0, 0];
     let mut i: usize = 0;
-    let most = if list_candidates::prefix_of(insn) == 0 {
-        6
-    } else {
-        12
-    };
     while i < 12 {
-        keys[i] = if i < most {
-            candidate_key(offset, insn, i as u8)
-        } else {
-            keys[i - 6]
-        };
+        keys[i] = candidate_key(offset, insn, parts, i as u8);
         i += 1;
     }
     list_entries::write_entries(keys, out)
@@ -112,9 +124,7 @@ fn list_run(run: ByteRun, offset: u16, out: &mut [u8]) -> usize
     ensures { λ r. ⌜ r ≡ length (listingOf (reads offset (take (run .len) (run .bytes))) offset) ⌝ }
     ensures { λ _. ⌜ now (out .exit) ≡ entries (listingOf (reads offset (take (run .len) (run .bytes))) offset) ++ drop (8 * length (listingOf (reads offset (take (run .len) (run .bytes))) offset)) (now (out .entry)) ⌝ }
 {
-    let bytes = run.bytes;
-    let n = run.len;
-    match reader::read_at(&bytes[..n], offset) {
+    match read_run(run, offset) {
         Read::Whole(insn, _) => list_instruction(offset, insn, out),
         Read::Nothing => 0,
         Read::More => 0,

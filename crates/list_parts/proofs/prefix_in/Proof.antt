@@ -1,6 +1,6 @@
 use borrow.Author.Needs.{needs}
-use Rattle.list_candidates.proofs.prefix_in.Statement.{statement}
-use Rattle.list_candidates.proofs.prefix_in.Tie as tie
+use Rattle.list_parts.proofs.prefix_in.Statement.{statement}
+use Rattle.list_parts.proofs.prefix_in.Tie as tie
 
 pub prefix-in-spec : {M : Type 1} → statement M
 prefix-in-spec =

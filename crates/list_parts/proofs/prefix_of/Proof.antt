@@ -1,6 +1,6 @@
 use borrow.Author.Needs.{needs}
-use Rattle.list_candidates.proofs.prefix_of.Statement.{statement}
-use Rattle.list_candidates.proofs.prefix_of.Tie as tie
+use Rattle.list_parts.proofs.prefix_of.Statement.{statement}
+use Rattle.list_parts.proofs.prefix_of.Tie as tie
 
 pub prefix-of-spec : {M : Type 1} → statement M
 prefix-of-spec =

@@ -1,6 +1,6 @@
 use borrow.Author.Needs.{needs}
-use Rattle.list_candidates.proofs.value_of.Statement.{statement}
-use Rattle.list_candidates.proofs.value_of.Tie as tie
+use Rattle.list_parts.proofs.value_of.Statement.{statement}
+use Rattle.list_parts.proofs.value_of.Tie as tie
 
 pub value-of-spec : {M : Type 1} → statement M
 value-of-spec =

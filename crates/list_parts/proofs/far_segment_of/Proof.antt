@@ -1,6 +1,6 @@
 use borrow.Author.Needs.{needs}
-use Rattle.list_candidates.proofs.far_segment_of.Statement.{statement}
-use Rattle.list_candidates.proofs.far_segment_of.Tie as tie
+use Rattle.list_parts.proofs.far_segment_of.Statement.{statement}
+use Rattle.list_parts.proofs.far_segment_of.Tie as tie
 
 pub far-segment-of-spec : {M : Type 1} → statement M
 far-segment-of-spec =

@@ -1,6 +1,6 @@
 use borrow.Author.Needs.{needs}
-use Rattle.list_candidates.proofs.displacement_of.Statement.{statement}
-use Rattle.list_candidates.proofs.displacement_of.Tie as tie
+use Rattle.list_parts.proofs.displacement_of.Statement.{statement}
+use Rattle.list_parts.proofs.displacement_of.Tie as tie
 
 pub displacement-of-spec : {M : Type 1} → statement M
 displacement-of-spec =
