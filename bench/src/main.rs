@@ -1,5 +1,5 @@
-//! What a call costs: our encoder, reader, lister, loader and the text of a form on the records of records.fsq, beside the Rust of docs/src and Zydis; and the
-//! value of a sum.
+//! What a call costs: our encoder, also by the shortest string, reader, lister, loader and the text of a form on the records of records.fsq, beside the Rust of
+//! docs/src and Zydis; and the value of a sum.
 //! `build` wraps this file and the Rust's sources into one crate; see README.md.
 
 #[allow(dead_code, unused_imports)]
@@ -78,6 +78,7 @@ fn measure(show: &Show, rounds: usize, warming: usize, timed: bool) -> Result<()
     let one_by_one = clock(of(&["encode-rattle", "encode-rust", "encode-rust-alone"]), rounds, warming)?;
     let reads = clock(of(&["read-rattle", "read-zydis"]), rounds, warming)?;
     let lists = clock(of(&["list-rattle"]), rounds / 10 + 1, warming / 10)?;
+    let shortest = clock(of(&["shortest-rattle"]), rounds / 10 + 1, warming / 10)?;
     let forms = clock(of(&["form-rattle"]), rounds, warming)?;
     let loads = clock(of(&["load-rattle", "load-rust"]), rounds, warming)?;
     let repeats = clock(of(&REPEATS), rounds / 10 + 1, warming / 10)?;
@@ -100,6 +101,7 @@ fn measure(show: &Show, rounds: usize, warming: usize, timed: bool) -> Result<()
         None => println!("read: rattle {}, zydis is not here", reads[0]),
     }
     println!("list: rattle {}/record", lists[0]);
+    println!("shortest: rattle {}/record", shortest[0]);
     println!("form: rattle {}/record", forms[0]);
     both("load", "/record", &loads[0], "rust", &loads[1]);
     for (name, figure) in REPEATS.iter().zip(&repeats) {

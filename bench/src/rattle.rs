@@ -16,6 +16,13 @@ pub fn encode(record: &[u8], offset: u16, out: &mut [u8], report: &mut Report) -
     (number == FSQ_DONE).then(|| length(report))
 }
 
+/// The same of the shortest string.
+#[inline]
+pub fn shortest(record: &[u8], offset: u16, out: &mut [u8], report: &mut Report) -> Option<usize> {
+    let number = unsafe { fsq_shortest(record.as_ptr(), record.len(), offset, out.as_mut_ptr(), out.len(), report.as_mut_ptr(), report.len()) };
+    (number == FSQ_DONE).then(|| length(report))
+}
+
 /// The number of entries of 8 bytes in out.
 #[inline]
 pub fn list(record: &[u8], offset: u16, out: &mut [u8], report: &mut Report) -> Option<usize> {

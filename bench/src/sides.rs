@@ -96,6 +96,7 @@ const SIDES: &[Side] = &[
     #[cfg(zydis)]
     Side { name: "read-zydis", writes: Writes::Lengths, round: read_zydis, answers: lengths_but_for_prefixes },
     Side { name: "list-rattle", writes: Writes::Lists, round: list_rattle, answers: lists },
+    Side { name: "shortest-rattle", writes: Writes::Bytes, round: shortest_rattle, answers: firsts },
     Side { name: "form-rattle", writes: Writes::Forms, round: form_rattle, answers: forms },
     Side { name: "load-rattle", writes: Writes::Image, round: load_rattle, answers: image },
     Side { name: "load-rust", writes: Writes::Image, round: load_rust, answers: image },
@@ -165,6 +166,14 @@ fn list_rattle(show: &Show, slots: &mut Slots) {
     let mut report: Report = [0; FSQ_REPORT_LENGTH];
     for (n, record) in show.records.iter().enumerate() {
         slots.lengths[n] = rattle::list(record, show.offsets[n], &mut slots.lists[n], &mut report).unwrap_or(0);
+    }
+}
+
+#[inline(never)]
+fn shortest_rattle(show: &Show, slots: &mut Slots) {
+    let mut report: Report = [0; FSQ_REPORT_LENGTH];
+    for (n, record) in show.records.iter().enumerate() {
+        slots.lengths[n] = rattle::shortest(record, show.offsets[n], &mut slots.bytes[n], &mut report).unwrap_or(0);
     }
 }
 
@@ -266,6 +275,15 @@ fn lengths_but_for_prefixes(show: &Show, slots: &Slots) -> Result<(), String> {
 /// The record's own string is among the entries.
 fn lists(show: &Show, slots: &Slots) -> Result<(), String> {
     each(&show.strings, |n, string| slots.lists[n].chunks(FSQ_ENTRY_LENGTH).take(slots.lengths[n]).any(|entry| entry[0] as usize == string.len && entry[1..] == string.bytes))
+}
+
+/// The first entry of the record's list, not longer than its own string.
+fn firsts(show: &Show, slots: &Slots) -> Result<(), String> {
+    each(&show.strings, |n, string| {
+        let (mut list, mut report) = ([0; FSQ_LIST_LENGTH], [0; FSQ_REPORT_LENGTH]);
+        let listed = rattle::list(&show.records[n], show.offsets[n], &mut list, &mut report).is_some();
+        listed && slots.lengths[n] == list[0] as usize && slots.bytes[n][..7] == list[1..FSQ_ENTRY_LENGTH] && slots.bytes[n][7] == 0 && slots.lengths[n] <= string.len
+    })
 }
 
 /// A form's line, whose opcode is the first byte of the record's own string that is no segment prefix.

@@ -1,5 +1,5 @@
-/* Encodes Word ADD [BX],5, tells its form, reads it back, lists all of its strings, and shows a refusal with its question; then REP MOVSB, encoded and read;
- * and evaluates a sum. */
+/* Encodes Word ADD [BX],5, tells its form, reads it back, lists all of its strings, writes it with DS: and by the shortest string, and shows a refusal with its
+ * question; then REP MOVSB, encoded and read; and evaluates a sum. */
 #include "fsq.h"
 #include <stdio.h>
 #include <string.h>
@@ -11,6 +11,7 @@ static void print_string(const uint8_t *bytes, size_t length) {
 
 int main(void) {
     fsq_record_t add = fsq_two(FSQ_ADD, fsq_mem(FSQ_WORD, FSQ_BASE_BX, 0), fsq_imm(5));
+    fsq_record_t add_ds = fsq_two(FSQ_ADD, fsq_with_segment(fsq_mem(FSQ_WORD, FSQ_BASE_BX, 0), FSQ_DS), fsq_imm(5));
     fsq_record_t mov = fsq_two(FSQ_MOV, fsq_mem(FSQ_BYTE, FSQ_BASE_BX, 0), fsq_imm(300));
     fsq_repeat_record_t copy = fsq_with_repeat(fsq_none(FSQ_MOVSB), FSQ_REPEAT_REP);
     const char *delay = "3*(40+2)-1";
@@ -43,6 +44,18 @@ int main(void) {
     printf("listed: %d\n", count);
     for (size_t i = 0; i < (size_t) count; i++)
         print_string(fsq_entry_bytes(&list, i), fsq_entry_length(&list, i));
+
+    /* DS is the default segment of [BX]. */
+    length = fsq_encode_at(&add_ds, 256, string, sizeof string, NULL);
+    if (length < 0)
+        return -length;
+    printf("encoded with DS: ");
+    print_string(string, (size_t) length);
+    length = fsq_shortest_at(&add_ds, 256, string, sizeof string, NULL);
+    if (length < 0)
+        return -length;
+    printf("shortest: ");
+    print_string(string, (size_t) length);
 
     length = fsq_encode_at(&mov, 256, string, sizeof string, &report);
     printf("refused: %d, value %d is outside %d..%d\n", -length, (int) fsq_report_value(&report), (int) fsq_report_low(&report),

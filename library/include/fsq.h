@@ -2,12 +2,12 @@
  * target/staticlib, where libforeign.a is the same archive under the name that `rt staticlib foreign` gives it. `make -C library install` and
  * library/CMakeLists.txt install header, library and fsq.pc, its pkg-config file.
  *
- * This header has, in this order: the numbers and offsets; the six functions of the library; and over them inline functions, which a program
+ * This header has, in this order: the numbers and offsets; the functions of the library; and over them inline functions, which a program
  * needs no offsets for: operands (fsq_reg, fsq_mem, ..), records (fsq_none, fsq_one, fsq_two), records with a repeat (fsq_with_repeat), calls whose
- * answer is the length (fsq_encode_at, fsq_list_at, fsq_form_at, fsq_read_at, fsq_load_show), the value of a sum (fsq_evaluate_text), fields, names,
- * and the writing of a show file (fsq_write_show). library/examples/one.c and show.c use them.
+ * answer is the length (fsq_encode_at, fsq_shortest_at, fsq_list_at, fsq_form_at, fsq_read_at, fsq_load_show), the value of a sum (fsq_evaluate_text),
+ * fields, names, and the writing of a show file (fsq_write_show). library/examples/one.c and show.c use them.
  *
- * The six functions work on slices that the caller lends: an address and a length. For all of them:
+ * The library's functions work on slices that the caller lends: an address and a length. For all of them:
  * - A slice of any length is safe. One of length 0 may have any address that is not null.
  * - No two slices of one call may overlap.
  * - Nothing is written behind what is said here, and on a refusal nothing but the report.
@@ -22,7 +22,7 @@
 
 /* The version of this header. Another major one may take a name away, another minor one adds some or raises a limit. */
 #define FSQ_VERSION_MAJOR 2
-#define FSQ_VERSION_MINOR 4
+#define FSQ_VERSION_MINOR 5
 
 #ifdef __cplusplus
 extern "C" {
@@ -219,6 +219,18 @@ enum fsq_operation {
 uint8_t fsq_encode(const uint8_t *record, size_t record_len, uint16_t offset, uint8_t *out, size_t out_len, uint8_t *report,
                    size_t report_len);
 
+/* Encodes a record at an offset by the first string that fsq_list gives for it: none that is the same instruction there is shorter, and of the same
+ * length none is lower by its first differing byte. Two records that are the same instruction get the same bytes.
+ *   record, record_len   the record, as of fsq_encode
+ *   offset               where its bytes are to stand in the segment
+ *   out, out_len         gets the bytes at its front; its later bytes stay
+ *   report, report_len   as of fsq_encode
+ *   answers              FSQ_DONE, or as fsq_encode refuses, and the same records wherever out_len is 7 or more; FSQ_SLICE_TOO_SHORT where out_len is
+ *                        below the length of what it would write
+ */
+uint8_t fsq_shortest(const uint8_t *record, size_t record_len, uint16_t offset, uint8_t *out, size_t out_len, uint8_t *report,
+                     size_t report_len);
+
 /* Lists all strings of bytes that are, at an offset, the same instruction as a record's: none missing, and none beside them.
  *   record, record_len   the record, as of fsq_encode
  *   offset               where the strings are to stand in the segment
@@ -277,7 +289,7 @@ uint8_t fsq_evaluate(const uint8_t *text, size_t text_len, uint8_t *report, size
 
 /* The inline functions.
  *
- * They stand over the six functions and are compiled with the program that includes this header. They allocate nothing and keep nothing.
+ * They stand over the library's functions and are compiled with the program that includes this header. They allocate nothing and keep nothing.
  * Where one answers an int, it is a length or a count, 0 or more, or a refusal's number made negative, -1 to -18 or -23:
  *
  *     int length = fsq_encode_at(&record, offset, out, sizeof out, &report);
@@ -526,8 +538,9 @@ static inline fsq_repeat_record_t fsq_with_repeat(fsq_record_t record, enum fsq_
 
 /* Calls. For a null slice the library gets another address, with the length 0. Of a length that is below 256 the lowest byte is read.
  *
- * fsq_encode_at, fsq_list_at and fsq_form_at take a record without a repeat, fsq_encode_repeat_at, fsq_list_repeat_at and fsq_form_repeat_at one with a
- * repeat, and fsq_encode_bytes_at, fsq_list_bytes_at and fsq_form_bytes_at the bytes of either, as they stand in a file. */
+ * fsq_encode_at, fsq_shortest_at, fsq_list_at and fsq_form_at take a record without a repeat, fsq_encode_repeat_at, fsq_shortest_repeat_at,
+ * fsq_list_repeat_at and fsq_form_repeat_at one with a repeat, and fsq_encode_bytes_at, fsq_shortest_bytes_at, fsq_list_bytes_at and fsq_form_bytes_at
+ * the bytes of either, as they stand in a file. */
 
 /* Encodes the bytes of a record at an offset: fsq_encode.
  *   record, record_len   the record: 56 bytes, or 57 with a repeat; null is refused with FSQ_WRONG_LENGTH
@@ -561,6 +574,37 @@ static inline int fsq_encode_at(const fsq_record_t *record, uint16_t offset, uin
 /* The same of a record with a repeat. */
 static inline int fsq_encode_repeat_at(const fsq_repeat_record_t *record, uint16_t offset, uint8_t *out, size_t out_len, fsq_report_t *report) {
     return fsq_encode_bytes_at(record != NULL ? record->bytes : NULL, FSQ_REPEAT_RECORD_LENGTH, offset, out, out_len, report);
+}
+
+/* Encodes the bytes of a record at an offset by the shortest string of its instruction: fsq_shortest.
+ *   record, record_len   as of fsq_encode_bytes_at
+ *   offset               where its bytes are to stand in the segment
+ *   out, out_len         gets the bytes at its front; its later bytes stay
+ *   report               gets the report, or is null
+ *   answers              the number of bytes, 1 to 7, or a refusal's number made negative
+ */
+static inline int fsq_shortest_bytes_at(const uint8_t *record, size_t record_len, uint16_t offset, uint8_t *out, size_t out_len, fsq_report_t *report) {
+    fsq_report_t own;
+    uint8_t answer;
+    if (report == NULL)
+        report = &own;
+    if (out == NULL) {
+        out = report->bytes;
+        out_len = 0;
+    }
+    answer = fsq_shortest(record != NULL ? record : report->bytes, record != NULL ? record_len : 0, offset, out, out_len, report->bytes,
+                          FSQ_REPORT_LENGTH);
+    return answer == FSQ_DONE ? report->bytes[FSQ_REPORT_LENGTH_AT] : -(int) answer;
+}
+
+/* The same of a record: as of fsq_encode_at. */
+static inline int fsq_shortest_at(const fsq_record_t *record, uint16_t offset, uint8_t *out, size_t out_len, fsq_report_t *report) {
+    return fsq_shortest_bytes_at(record != NULL ? record->bytes : NULL, FSQ_RECORD_LENGTH, offset, out, out_len, report);
+}
+
+/* The same of a record with a repeat. */
+static inline int fsq_shortest_repeat_at(const fsq_repeat_record_t *record, uint16_t offset, uint8_t *out, size_t out_len, fsq_report_t *report) {
+    return fsq_shortest_bytes_at(record != NULL ? record->bytes : NULL, FSQ_REPEAT_RECORD_LENGTH, offset, out, out_len, report);
 }
 
 /* Lists all strings of bytes that are, at an offset, the same instruction as a record's: fsq_list.

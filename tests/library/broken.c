@@ -1,9 +1,10 @@
-// Wrong programs for tests/library/broken: the six functions with one fault each, named by FSQ_FAULT.
+// Wrong programs for tests/library/broken: the library's functions with one fault each, named by FSQ_FAULT.
 #include "fsq.h"
 #include <stdlib.h>
 #include <string.h>
 
 extern __typeof__(fsq_encode) right_encode;
+extern __typeof__(fsq_shortest) right_shortest;
 extern __typeof__(fsq_list) right_list;
 extern __typeof__(fsq_form) right_form;
 extern __typeof__(fsq_read) right_read;
@@ -79,6 +80,81 @@ uint8_t fsq_encode(const uint8_t *record, size_t n, uint16_t offset, uint8_t *ou
         answer = right_encode(record, FSQ_REPEAT_RECORD_LENGTH, offset, out, m, report, k);
     if (fault("55-bytes-taken") && n == FSQ_RECORD_LENGTH - 1)
         return FSQ_DONE;
+    return answer;
+}
+
+uint8_t fsq_shortest(const uint8_t *record, size_t n, uint16_t offset, uint8_t *out, size_t m, uint8_t *report, size_t k) {
+    uint8_t answer, count, length, encoded[FSQ_STRING_LENGTH], list[FSQ_LIST_LENGTH], own[FSQ_REPORT_LENGTH];
+    int accepted, reported = k >= FSQ_REPORT_LENGTH;
+    size_t chosen = 0;
+    if (fault("shortest-before-a-refusal") && m > 0)
+        out[0] = 0x83;
+    if (fault("shortest-as-the-encoder"))
+        return right_encode(record, n, offset, out, m, report, k);
+    // 9 by the longest string, and by the encoder's
+    if (fault("shortest-9-below-7-bytes") && m < FSQ_STRING_LENGTH)
+        m = 0;
+    if (fault("shortest-9-as-the-encoder") && right_encode(record, n, offset, encoded, m < FSQ_STRING_LENGTH ? m : FSQ_STRING_LENGTH, own, sizeof own) == FSQ_SLICE_TOO_SHORT)
+        m = 0;
+    answer = right_shortest(record, n, offset, out, m, report, k);
+    accepted = answer == FSQ_DONE;
+    if (fault("shortest-refuses-with-7") && answer == FSQ_INVALID_OPERANDS)
+        return FSQ_NOT_SUPPORTED;
+    if (fault("shortest-span-lost") && !accepted && reported)
+        memset(report + FSQ_REPORT_SPAN_START_AT, 0, 8);
+    if (fault("shortest-57-bytes-refused") && n == FSQ_REPEAT_RECORD_LENGTH)
+        return FSQ_WRONG_LENGTH;
+    if (!accepted || right_encode(record, n, offset, encoded, sizeof encoded, own, sizeof own) != FSQ_DONE)
+        return answer;
+    (void) right_list(record, n, offset, list, sizeof list, own, sizeof own);
+    count = own[FSQ_REPORT_LENGTH_AT];
+    length = list[0];
+    if (fault("shortest-byte-behind") && m > length)
+        out[length] ^= 1;
+    if (fault("shortest-length-one-more") && reported && length == 1)
+        report[FSQ_REPORT_LENGTH_AT]++;
+    // another entry of the list
+    if (fault("shortest-as-the-last"))
+        chosen = count - 1;
+    if (fault("shortest-not-the-lowest"))
+        while (chosen + 1 < count && list[(chosen + 1) * FSQ_ENTRY_LENGTH] == length)
+            chosen++;
+    if (fault("shortest-xchg-as-written") && record[FSQ_OPERATION_AT] == FSQ_XCHG && count > 1 && list[FSQ_ENTRY_LENGTH] == length)
+        chosen = 1;
+    if (fault("shortest-without-eb") && out[0] == 0xEB)
+        chosen = 1;
+    if (fault("shortest-prefix-kept") && (encoded[0] == 0x36 || encoded[0] == 0x3E) && out[0] != encoded[0])
+        while (chosen < count && list[chosen * FSQ_ENTRY_LENGTH + 1] != encoded[0])
+            chosen++;
+    if (fault("shortest-displacement-kept") && (out[0] == 0x8B || out[0] == 0x8A) && out[1] >> 6 == 1)
+        while (chosen < count && list[chosen * FSQ_ENTRY_LENGTH + 2] >> 6 != 2)
+            chosen++;
+    if (chosen != 0 && chosen < count && list[chosen * FSQ_ENTRY_LENGTH] <= m) {
+        memcpy(out, list + chosen * FSQ_ENTRY_LENGTH + 1, list[chosen * FSQ_ENTRY_LENGTH]);
+        if (reported)
+            report[FSQ_REPORT_LENGTH_AT] = list[chosen * FSQ_ENTRY_LENGTH];
+    }
+    // a shorter string of another instruction: 83's byte is extended with its sign, a jump reaches 127, the segment of LEA is a part of it
+    if (fault("shortest-83-for-200") && out[0] == 0x81 && length == 4 && out[2] >= 128 && out[3] == 0) {
+        out[0] = 0x83;
+        if (reported)
+            report[FSQ_REPORT_LENGTH_AT] = 3;
+    }
+    if (fault("shortest-eb-to-128") && out[0] == 0xE9 && out[1] == 0x7F && out[2] == 0) {
+        memcpy(out, "\xEB\x80", 2);
+        if (reported)
+            report[FSQ_REPORT_LENGTH_AT] = 2;
+    }
+    if (fault("shortest-prefix-of-lea") && out[0] == 0x26 && out[1] == 0x8D) {
+        memmove(out, out + 1, length - 1u);
+        if (reported)
+            report[FSQ_REPORT_LENGTH_AT]--;
+    }
+    if (fault("shortest-repeat-dropped") && length == 2 && out[0] == 0xF3 && repeat_of(record, n) == 0xF3) {
+        out[0] = out[1];
+        if (reported)
+            report[FSQ_REPORT_LENGTH_AT] = 1;
+    }
     return answer;
 }
 

@@ -14,6 +14,7 @@ static void check(int good, const char *what, int line) {
 
 #define CHECK(good) check((good) ? 1 : 0, #good, __LINE__)
 #define ENCODES(record, offset, bytes) encodes((record), (offset), (bytes), __LINE__)
+#define SHORTEST(record, offset, bytes) shortest_is((record), (offset), (bytes), __LINE__)
 #define REFUSED(record, offset, number) refused((record), (offset), (number), __LINE__)
 #define FORM(record, offset, text) form_is((record), (offset), (text), __LINE__)
 #define REPEAT(record, offset, bytes, form) repeat_is((record), (offset), (bytes), (form), __LINE__)
@@ -55,6 +56,30 @@ static void encodes(fsq_record_t record, uint16_t offset, const char *bytes, int
           && memcmp(report, told.bytes, sizeof report) == 0 && memcmp(again, out, fsq_get_u32(report)) == 0, bytes, line);
 }
 
+/* The inline function and the library's write these bytes, and no others; a slice of so many takes them, and one of a byte less does not. They are the
+ * first entry of the record's list, and no longer than the encoder's. */
+static void shortest_is(fsq_record_t record, uint16_t offset, const char *bytes, int line) {
+    uint8_t out[16], report[FSQ_REPORT_LENGTH], again[FSQ_STRING_LENGTH];
+    fsq_report_t told;
+    fsq_list_t list;
+    int length, i, stays = 1;
+    memset(out, 0xA5, sizeof out);
+    memset(again, 0xA5, sizeof again);
+    length = fsq_shortest_at(&record, offset, out, sizeof out, &told);
+    for (i = length < 0 ? 0 : length; i < 16; i++)
+        stays &= out[i] == 0xA5;
+    check(length > 0 && is(out, (size_t) length, bytes) && stays, bytes, line);
+    check(length > 0 && fsq_report_length(&told) == (uint32_t) length && fsq_report_record(&told) == FSQ_NO_RECORD, bytes, line);
+    if (length <= 0)
+        return;
+    check(fsq_shortest(record.bytes, sizeof record.bytes, offset, again, (size_t) length - 1, report, sizeof report) == FSQ_SLICE_TOO_SHORT
+          && fsq_shortest_at(&record, offset, again, (size_t) length - 1, NULL) == -FSQ_SLICE_TOO_SHORT && is(again, 7, "A5 A5 A5 A5 A5 A5 A5"), bytes, line);
+    check(fsq_shortest(record.bytes, sizeof record.bytes, offset, again, (size_t) length, report, sizeof report) == FSQ_DONE
+          && memcmp(report, told.bytes, sizeof report) == 0 && memcmp(again, out, sizeof again) == 0, bytes, line);
+    check(fsq_list_at(&record, offset, &list, NULL) > 0 && is(fsq_entry_bytes(&list, 0), fsq_entry_length(&list, 0), bytes), bytes, line);
+    check(fsq_encode_at(&record, offset, out, sizeof out, NULL) >= length, bytes, line);
+}
+
 static fsq_report_t refused(fsq_record_t record, uint16_t offset, int number, int line) {
     uint8_t out[FSQ_STRING_LENGTH];
     fsq_report_t report, other;
@@ -65,6 +90,8 @@ static fsq_report_t refused(fsq_record_t record, uint16_t offset, int number, in
     answer = fsq_encode_at(&record, offset, out, sizeof out, &report);
     check(answer == -number && is(out, sizeof out, "A5 A5 A5 A5 A5 A5 A5"), fsq_refusal_name(answer), line);
     check(fsq_encode_at(&record, offset, out, sizeof out, NULL) == -number, "without a report", line);
+    check(fsq_shortest_at(&record, offset, out, sizeof out, &other) == -number && memcmp(&report, &other, sizeof report) == 0
+          && fsq_shortest_at(&record, offset, out, sizeof out, NULL) == -number && is(out, sizeof out, "A5 A5 A5 A5 A5 A5 A5"), "of the shortest string", line);
     check(fsq_list_at(&record, offset, &list, &other) == -number && memcmp(&report, &other, sizeof report) == 0 && list.bytes[95] == 0xA5
           && list.count == 0, "of a list", line);
     return report;
@@ -106,13 +133,19 @@ static void repeat_is(fsq_repeat_record_t record, uint16_t offset, const char *b
     check(length > 0 && is(out, (size_t) length, bytes) && stays && fsq_report_length(&told) == (uint32_t) length, bytes, line);
     check(fsq_encode_bytes_at(record.bytes, sizeof record.bytes, offset, again, sizeof again, &other) == length && memcmp(&told, &other, sizeof told) == 0
           && memcmp(again, out, sizeof out) == 0, bytes, line);
+    memset(again, 0xA5, sizeof again);
+    check(fsq_shortest_repeat_at(&record, offset, again, sizeof again, &other) == length && memcmp(&told, &other, sizeof told) == 0
+          && memcmp(again, out, sizeof out) == 0, bytes, line);
+    memset(again, 0xA5, sizeof again);
+    check(fsq_shortest_bytes_at(record.bytes, sizeof record.bytes, offset, again, sizeof again, NULL) == length && memcmp(again, out, sizeof out) == 0, bytes, line);
     check(fsq_list_repeat_at(&record, offset, &list, NULL) == 1 && list.count == 1 && is(fsq_entry_bytes(&list, 0), fsq_entry_length(&list, 0), bytes), bytes, line);
     check(fsq_list_bytes_at(record.bytes, sizeof record.bytes, offset, &list, NULL) == 1, bytes, line);
     check(fsq_form_repeat_at(&record, offset, &string, NULL) == (int) strlen(form) && strcmp(string.text, form) == 0, form, line);
     check(fsq_form_bytes_at(record.bytes, sizeof record.bytes, offset, &string, NULL) == (int) strlen(form) && strcmp(string.text, form) == 0, form, line);
 }
 
-/* A record with a repeat that is refused, with the question that refuses it, or 0 where none is asked; the report is that of all three calls. */
+/* A record with a repeat that is refused, with the question that refuses it, or 0 where none is asked; the report is that of the encoder, also by the
+ * shortest string, and of the list. */
 static fsq_report_t repeat_refused(fsq_repeat_record_t record, int number, int question, int line) {
     uint8_t out[FSQ_STRING_LENGTH];
     fsq_report_t report, other;
@@ -122,6 +155,8 @@ static fsq_report_t repeat_refused(fsq_repeat_record_t record, int number, int q
     memset(out, 0xA5, sizeof out);
     answer = fsq_encode_repeat_at(&record, 0, out, sizeof out, &report);
     check(answer == -number && is(out, sizeof out, "A5 A5 A5 A5 A5 A5 A5"), fsq_refusal_name(answer), line);
+    check(fsq_shortest_repeat_at(&record, 0, out, sizeof out, &other) == -number && memcmp(&report, &other, sizeof report) == 0
+          && is(out, sizeof out, "A5 A5 A5 A5 A5 A5 A5"), "of the shortest string", line);
     check(fsq_list_repeat_at(&record, 0, &list, &other) == -number && memcmp(&report, &other, sizeof report) == 0 && list.count == 0, "of a list", line);
     answer = fsq_form_repeat_at(&record, 0, &string, NULL);
     check(question == 0 ? answer == -number : answer == 10 && fsq_line_question(&string) == question, "of a form", line);
@@ -175,7 +210,7 @@ static void numbers(void) {
     CHECK(is(at, 5, "78 56 34 12 A5") && fsq_get_i32(at) == 0x12345678);
     fsq_put_u16(at, 0xABCD);
     CHECK(is(at, 3, "CD AB 34"));
-    CHECK(FSQ_VERSION_MAJOR == 2 && FSQ_VERSION_MINOR >= 4);
+    CHECK(FSQ_VERSION_MAJOR == 2 && FSQ_VERSION_MINOR >= 5);
     CHECK(FSQ_MOST_RECORDS == 8000 && FSQ_SHORT_RECORDS == 1000 && FSQ_IMAGE_LENGTH == 56000 && FSQ_FILE_LENGTH == 456009);
     CHECK(FSQ_FILE_VERSION == 1 && FSQ_LONG_VERSION == 2 && FSQ_REPEAT_VERSION == 3 && FSQ_RECORD_LENGTH == 56 && FSQ_REPEAT_RECORD_LENGTH == 57);
     CHECK(FSQ_REPEAT_NONE == 0 && FSQ_REPEAT_REPNE == 0xF2 && FSQ_REPEAT_REP == 0xF3 && FSQ_REPEAT_AT == 2 && FSQ_READ_REPEAT_AT == 5);
@@ -394,6 +429,93 @@ static void calls(void) {
     add = fsq_one(FSQ_PUSH, fsq_reg(FSQ_AX));
     CHECK(fsq_list_at(&add, 0, &list, NULL) == 2 && is(fsq_entry_bytes(&list, 0), fsq_entry_length(&list, 0), "50"));
     CHECK(is(fsq_entry_bytes(&list, 1), fsq_entry_length(&list, 1), "FF F0"));
+}
+
+/* Document 02, No. 8, by the SDM's forms: the shortest string of an instruction, and of the same length the lowest. */
+static void shortest(void) {
+    fsq_operand_t ax = fsq_reg(FSQ_AX), al = fsq_reg(FSQ_AL), bx = fsq_reg(FSQ_BX), bl = fsq_reg(FSQ_BL), cx = fsq_reg(FSQ_CX), five = fsq_imm(5);
+    fsq_operand_t at_bx = fsq_mem(FSQ_UNSPECIFIED, FSQ_BASE_BX, 0), at_bp = fsq_mem(FSQ_UNSPECIFIED, FSQ_BASE_BP, 0), in_mode_2 = fsq_mem(FSQ_WORD, FSQ_BASE_BX, 4660);
+    fsq_record_t jmp = fsq_record_with_span(fsq_one(FSQ_JMP, five), 2, 5), mov = fsq_two(FSQ_MOV, ax, fsq_with_segment(at_bx, FSQ_DS)), malformed = jmp, unknown = jmp;
+    fsq_repeat_record_t repeated;
+    fsq_report_t report;
+    uint8_t out[FSQ_STRING_LENGTH + 1];
+    memset(out, 0xA5, sizeof out);
+
+    /* The accumulator's own form, 05 before 83 and 81; 83 where its byte, extended, is the immediate. */
+    SHORTEST(fsq_two(FSQ_ADD, ax, five), 0, "05 05 00");
+    SHORTEST(fsq_two(FSQ_ADD, ax, fsq_imm(-1)), 0, "05 FF FF");
+    SHORTEST(fsq_two(FSQ_ADD, ax, fsq_imm(65535)), 0, "05 FF FF");
+    SHORTEST(fsq_two(FSQ_ADD, bx, fsq_imm(65535)), 0, "83 C3 FF");
+    SHORTEST(fsq_two(FSQ_ADD, bx, fsq_imm(127)), 0, "83 C3 7F");
+    SHORTEST(fsq_two(FSQ_ADD, bx, fsq_imm(200)), 0, "81 C3 C8 00");
+    SHORTEST(fsq_two(FSQ_ADD, bx, fsq_imm(65408)), 0, "83 C3 80");
+    SHORTEST(fsq_two(FSQ_ADD, bx, fsq_imm(65407)), 0, "81 C3 7F FF");
+    SHORTEST(fsq_two(FSQ_ADD, al, five), 0, "04 05");
+    SHORTEST(fsq_two(FSQ_ADD, bl, five), 0, "80 C3 05");
+    SHORTEST(fsq_two(FSQ_TEST, al, five), 0, "A8 05");
+    SHORTEST(fsq_two(FSQ_MOV, ax, five), 0, "B8 05 00");
+    SHORTEST(fsq_two(FSQ_MOV, ax, fsq_address(FSQ_UNSPECIFIED, 4660)), 0, "A1 34 12");
+    SHORTEST(fsq_two(FSQ_MOV, cx, fsq_address(FSQ_UNSPECIFIED, 4660)), 0, "8B 0E 34 12");
+    SHORTEST(fsq_one(FSQ_PUSH, ax), 0, "50");
+    SHORTEST(fsq_one(FSQ_INC, ax), 0, "40");
+    /* Two registers: the lower opcode, and of XCHG, which has no first and second, the lower ModRM. */
+    SHORTEST(fsq_two(FSQ_MOV, ax, bx), 0, "89 D8");
+    SHORTEST(fsq_two(FSQ_XCHG, bx, cx), 0, "87 CB");
+    SHORTEST(fsq_two(FSQ_XCHG, cx, bx), 0, "87 CB");
+    SHORTEST(fsq_two(FSQ_XCHG, ax, cx), 0, "91");
+    SHORTEST(fsq_two(FSQ_XCHG, ax, ax), 0, "90");
+    SHORTEST(fsq_none(FSQ_NOP), 0, "90");
+    SHORTEST(fsq_none(FSQ_AAM), 0, "D4 0A");
+    SHORTEST(fsq_none(FSQ_REP), 0, "F3");
+    /* A prefix that names the default segment goes, another stays. */
+    SHORTEST(mov, 0, "8B 07");
+    SHORTEST(fsq_two(FSQ_MOV, ax, fsq_with_segment(at_bx, FSQ_ES)), 0, "26 8B 07");
+    SHORTEST(fsq_two(FSQ_LEA, ax, fsq_with_segment(at_bx, FSQ_ES)), 0, "26 8D 07");
+    SHORTEST(fsq_two(FSQ_MOV, al, fsq_with_segment(at_bp, FSQ_SS)), 0, "8A 46 00");
+    SHORTEST(fsq_two(FSQ_MOV, al, fsq_with_segment(at_bp, FSQ_DS)), 0, "3E 8A 46 00");
+    SHORTEST(fsq_two(FSQ_MOV, ax, fsq_with_segment(fsq_address(FSQ_UNSPECIFIED, 4660), FSQ_DS)), 0, "A1 34 12");
+    /* The shortest displacement that is the same modulo 65,536. */
+    SHORTEST(fsq_two(FSQ_MOV, ax, fsq_mem(FSQ_UNSPECIFIED, FSQ_BASE_BX, 65535)), 0, "8B 47 FF");
+    ENCODES(fsq_two(FSQ_MOV, ax, fsq_mem(FSQ_UNSPECIFIED, FSQ_BASE_BX, 65535)), 0, "8B 87 FF FF");
+    SHORTEST(fsq_two(FSQ_MOV, ax, fsq_mem(FSQ_UNSPECIFIED, FSQ_BASE_BX, 128)), 0, "8B 87 80 00");
+    fsq_put_u32(in_mode_2.bytes + FSQ_DISPLACEMENT_AT, 0);
+    ENCODES(fsq_two(FSQ_ADD, fsq_with_segment(in_mode_2, FSQ_DS), fsq_imm(200)), 0, "3E 81 87 00 00 C8 00");
+    SHORTEST(fsq_two(FSQ_ADD, fsq_with_segment(in_mode_2, FSQ_DS), fsq_imm(200)), 0, "81 07 C8 00");
+    /* EB where it reaches, of every kind, from -128 to 127 behind it. */
+    SHORTEST(jmp, 0, "EB 03");
+    SHORTEST(fsq_one(FSQ_JMP, fsq_with_jump(five, FSQ_NEAR)), 0, "EB 03");
+    SHORTEST(fsq_one(FSQ_JMP, fsq_with_jump(five, FSQ_SHORT)), 0, "EB 03");
+    SHORTEST(fsq_one(FSQ_JMP, fsq_imm(129)), 0, "EB 7F");
+    SHORTEST(fsq_one(FSQ_JMP, fsq_imm(130)), 0, "E9 7F 00");
+    SHORTEST(fsq_one(FSQ_JMP, fsq_imm(130)), 256, "EB 80");
+    SHORTEST(fsq_one(FSQ_JMP, fsq_imm(129)), 256, "E9 7E FF");
+    SHORTEST(fsq_one(FSQ_JMP, fsq_imm(0)), 65534, "EB 00");
+    SHORTEST(fsq_one(FSQ_JE, fsq_imm(129)), 0, "74 7F");
+    SHORTEST(fsq_one(FSQ_CALL, five), 0, "E8 02 00");
+
+    /* 9 is given by the length of what each would write. */
+    CHECK(fsq_encode_at(&jmp, 0, out, 2, &report) == -FSQ_SLICE_TOO_SHORT && out[0] == 0xA5);
+    CHECK(fsq_shortest_at(&jmp, 0, out, 2, NULL) == 2 && is(out, 3, "EB 03 A5"));
+    CHECK(fsq_shortest_at(&jmp, 0, out, 1, &report) == -FSQ_SLICE_TOO_SHORT && is(out, 3, "EB 03 A5"));
+    CHECK(fsq_report_span_start(&report) == 2 && fsq_report_span_end(&report) == 5 && fsq_report_length(&report) == 0);
+    CHECK(fsq_encode_at(&mov, 0, out, 2, NULL) == -FSQ_SLICE_TOO_SHORT && fsq_shortest_at(&mov, 0, out, 2, NULL) == 2 && is(out, 3, "8B 07 A5"));
+
+    /* Null slices, records and reports, and what is no record. */
+    CHECK(fsq_shortest_at(&jmp, 0, NULL, 0, &report) == -FSQ_SLICE_TOO_SHORT && fsq_report_span_end(&report) == 5);
+    CHECK(fsq_shortest_at(&jmp, 0, NULL, 7, NULL) == -FSQ_SLICE_TOO_SHORT && fsq_shortest_at(&jmp, 0, out, 0, NULL) == -FSQ_SLICE_TOO_SHORT);
+    CHECK(fsq_shortest_at(NULL, 0, out, sizeof out, &report) == -FSQ_WRONG_LENGTH && fsq_report_record(&report) == FSQ_NO_RECORD);
+    CHECK(fsq_shortest_at(NULL, 0, NULL, 0, NULL) == -FSQ_WRONG_LENGTH && fsq_shortest_repeat_at(NULL, 0, out, sizeof out, NULL) == -FSQ_WRONG_LENGTH);
+    CHECK(fsq_shortest_bytes_at(NULL, 56, 0, out, sizeof out, NULL) == -FSQ_WRONG_LENGTH);
+    CHECK(fsq_shortest_bytes_at(jmp.bytes, 55, 0, out, sizeof out, NULL) == -FSQ_WRONG_LENGTH);
+    CHECK(fsq_shortest_bytes_at(jmp.bytes, 56, 0, out, sizeof out, NULL) == 2);
+    repeated = fsq_with_repeat(jmp, FSQ_REPEAT_NONE);
+    CHECK(fsq_shortest_repeat_at(&repeated, 0, out, 2, NULL) == 2 && is(out, 3, "EB 03 A5") && fsq_shortest_repeat_at(&repeated, 0, out, 1, NULL) == -FSQ_SLICE_TOO_SHORT);
+    CHECK(fsq_shortest_bytes_at(repeated.bytes, 57, 256, out, sizeof out, NULL) == 3 && is(out, 4, "E9 02 FF A5"));
+    malformed.bytes[FSQ_COUNT_AT] = 3;
+    CHECK(fsq_shortest_at(&malformed, 0, NULL, 0, NULL) == -FSQ_NOT_WELL_FORMED);
+    unknown.bytes[FSQ_OPERATION_AT] = 99;
+    CHECK(fsq_shortest_at(&unknown, 0, NULL, 0, NULL) == -FSQ_UNKNOWN_CODE);
+    CHECK(fsq_shortest_bytes_at(unknown.bytes, 55, 0, NULL, 0, NULL) == -FSQ_WRONG_LENGTH);
 }
 
 /* REFERENCE 9: the settled lines of document 02, No. 3, then a line for each kind of form and each question. */
@@ -1049,6 +1171,7 @@ int main(void) {
     records();
     bytes();
     calls();
+    shortest();
     forms();
     readings();
     shows();

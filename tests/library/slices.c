@@ -1,4 +1,4 @@
-/* slices FILE: the six functions and the header's inline functions over them on lent slices of every length that can matter, with the records of a
+/* slices FILE: the library's functions and the header's inline functions over them on lent slices of every length that can matter, with the records of a
  * show file, whole and with a byte changed, each without a repeat and with one, and with texts of sums. A file of more records than version 1 has is
  * loaded only.
  *
@@ -80,12 +80,14 @@ static void handed(const char *function, const void *from, size_t n, const void 
 }
 
 uint8_t __real_fsq_encode(const uint8_t *, size_t, uint16_t, uint8_t *, size_t, uint8_t *, size_t);
+uint8_t __real_fsq_shortest(const uint8_t *, size_t, uint16_t, uint8_t *, size_t, uint8_t *, size_t);
 uint8_t __real_fsq_list(const uint8_t *, size_t, uint16_t, uint8_t *, size_t, uint8_t *, size_t);
 uint8_t __real_fsq_form(const uint8_t *, size_t, uint16_t, uint8_t *, size_t, uint8_t *, size_t);
 uint8_t __real_fsq_read(const uint8_t *, size_t, uint16_t, uint8_t *, size_t);
 uint8_t __real_fsq_load(const uint8_t *, size_t, uint8_t *, size_t, uint8_t *, size_t);
 uint8_t __real_fsq_evaluate(const uint8_t *, size_t, uint8_t *, size_t);
 uint8_t __wrap_fsq_encode(const uint8_t *, size_t, uint16_t, uint8_t *, size_t, uint8_t *, size_t);
+uint8_t __wrap_fsq_shortest(const uint8_t *, size_t, uint16_t, uint8_t *, size_t, uint8_t *, size_t);
 uint8_t __wrap_fsq_list(const uint8_t *, size_t, uint16_t, uint8_t *, size_t, uint8_t *, size_t);
 uint8_t __wrap_fsq_form(const uint8_t *, size_t, uint16_t, uint8_t *, size_t, uint8_t *, size_t);
 uint8_t __wrap_fsq_read(const uint8_t *, size_t, uint16_t, uint8_t *, size_t);
@@ -95,6 +97,11 @@ uint8_t __wrap_fsq_evaluate(const uint8_t *, size_t, uint8_t *, size_t);
 uint8_t __wrap_fsq_encode(const uint8_t *record, size_t n, uint16_t offset, uint8_t *o, size_t m, uint8_t *r, size_t k) {
     handed("fsq_encode", record, n, o, m, r);
     return __real_fsq_encode(record, n, offset, o, m, r, k);
+}
+
+uint8_t __wrap_fsq_shortest(const uint8_t *record, size_t n, uint16_t offset, uint8_t *o, size_t m, uint8_t *r, size_t k) {
+    handed("fsq_shortest", record, n, o, m, r);
+    return __real_fsq_shortest(record, n, offset, o, m, r, k);
 }
 
 uint8_t __wrap_fsq_list(const uint8_t *record, size_t n, uint16_t offset, uint8_t *o, size_t m, uint8_t *r, size_t k) {
@@ -122,19 +129,20 @@ uint8_t __wrap_fsq_evaluate(const uint8_t *text, size_t n, uint8_t *r, size_t k)
     return __real_fsq_evaluate(text, n, r, k);
 }
 
-enum function { ENCODE, LIST, READ, LOAD, FORM, EVALUATE };
+enum function { ENCODE, LIST, READ, LOAD, FORM, EVALUATE, SHORTEST };
 
 /* The bytes that one of what a function counts has. */
-static const size_t each[] = {1, FSQ_ENTRY_LENGTH, 0, 1, 1, 0};
+static const size_t each[] = {1, FSQ_ENTRY_LENGTH, 0, 1, 1, 0, 1};
 
 /* One call. `bytes` is what it reads; the answer is compared with `first`, the one that a whole report came with, where that is not negative. */
 static int call(enum function function, const uint8_t *bytes, size_t length, uint16_t offset, size_t out_len, size_t report_len, int first) {
-    static const char *names[] = {"fsq_encode", "fsq_list", "fsq_read", "fsq_load", "fsq_form", "fsq_evaluate"};
+    static const char *names[] = {"fsq_encode", "fsq_list", "fsq_read", "fsq_load", "fsq_form", "fsq_evaluate", "fsq_shortest"};
     room to = function == LOAD ? image : out;
     uint8_t *o = lend(to, out_len), *r = lend(report, report_len);
     const char *wrong = NULL;
     size_t written = 0;
     uint8_t answer = function == ENCODE ? fsq_encode(bytes, length, offset, o, out_len, r, report_len)
+        : function == SHORTEST ? fsq_shortest(bytes, length, offset, o, out_len, r, report_len)
         : function == LIST ? fsq_list(bytes, length, offset, o, out_len, r, report_len)
         : function == FORM ? fsq_form(bytes, length, offset, o, out_len, r, report_len)
         : function == READ ? fsq_read(bytes, length, offset, o, out_len)
@@ -175,10 +183,10 @@ static void call_all(enum function function, const uint8_t *bytes, size_t length
 /* Which of three inline functions takes a record: that of its type, by its length, or that of bytes. */
 enum taken { BYTES, RECORD = FSQ_RECORD_LENGTH, REPEAT = FSQ_REPEAT_RECORD_LENGTH };
 
-/* An inline function beside the library's. `out_len` is that of ENCODE and LOAD; the others write a struct. Null are, by the bits of `nulls`, what is
+/* An inline function beside the library's. `out_len` is that of ENCODE, SHORTEST and LOAD; the others write a struct. Null are, by the bits of `nulls`, what is
  * read (with its length), what is written (with its length) and the report. */
 static void call_inline(enum function function, enum taken by, const uint8_t *bytes, size_t length, uint16_t offset, size_t out_len, unsigned nulls) {
-    static const char *names[] = {"fsq_encode_at", "fsq_list_at", "fsq_read_at", "fsq_load_show", "fsq_form_at"};
+    static const char *names[] = {"fsq_encode_at", "fsq_list_at", "fsq_read_at", "fsq_load_show", "fsq_form_at", "", "fsq_shortest_at"};
     static uint8_t right[IMAGE];
     room to = function == LOAD ? image : out;
     uint8_t right_report[FSQ_REPORT_LENGTH] = {0}, number;
@@ -192,6 +200,7 @@ static void call_inline(enum function function, enum taken by, const uint8_t *by
     const char *wrong = NULL;
     int answer, expected;
     number = function == ENCODE ? fsq_encode(bytes, given, offset, right, lent, right_report, sizeof right_report)
+        : function == SHORTEST ? fsq_shortest(bytes, given, offset, right, lent, right_report, sizeof right_report)
         : function == LIST ? fsq_list(bytes, given, offset, right, lent, right_report, sizeof right_report)
         : function == FORM ? fsq_form(bytes, given, offset, right, lent, right_report, sizeof right_report)
         : function == READ ? fsq_read(bytes, given, offset, right, lent)
@@ -199,6 +208,9 @@ static void call_inline(enum function function, enum taken by, const uint8_t *by
     answer = function == ENCODE && by == RECORD ? fsq_encode_at((const fsq_record_t *) from, offset, o, out_len, r)
         : function == ENCODE && by == REPEAT ? fsq_encode_repeat_at((const fsq_repeat_record_t *) from, offset, o, out_len, r)
         : function == ENCODE ? fsq_encode_bytes_at(from, length, offset, o, out_len, r)
+        : function == SHORTEST && by == RECORD ? fsq_shortest_at((const fsq_record_t *) from, offset, o, out_len, r)
+        : function == SHORTEST && by == REPEAT ? fsq_shortest_repeat_at((const fsq_repeat_record_t *) from, offset, o, out_len, r)
+        : function == SHORTEST ? fsq_shortest_bytes_at(from, length, offset, o, out_len, r)
         : function == LIST && by == RECORD ? fsq_list_at((const fsq_record_t *) from, offset, (fsq_list_t *) o, r)
         : function == LIST && by == REPEAT ? fsq_list_repeat_at((const fsq_repeat_record_t *) from, offset, (fsq_list_t *) o, r)
         : function == LIST ? fsq_list_bytes_at(from, length, offset, (fsq_list_t *) o, r)
@@ -246,6 +258,29 @@ static void call_inline_all(enum function function, enum taken by, const uint8_t
     uint16_t offset = (uint16_t) below(65536);
     for (unsigned nulls = 0; nulls < 8; nulls++)
         call_inline(function, by, bytes, nulls & 1u && nulls & 2u ? 0 : length, offset, nulls & 2u && nulls & 4u ? 0 : out_len, nulls);
+}
+
+/* The shortest string of a record beside its list: the first entry, no longer than the encoder's string, in every slice that holds it; without a list the
+ * encoder's refusal and report. */
+static void shortest_beside(const uint8_t *record, size_t length) {
+    uint16_t offset = (uint16_t) below(65536);
+    uint8_t list[FSQ_LIST_LENGTH], string[FSQ_STRING_LENGTH], reports[3][FSQ_REPORT_LENGTH];
+    uint8_t listed = fsq_list(record, length, offset, list, sizeof list, reports[0], sizeof reports[0]);
+    uint8_t encoded = fsq_encode(record, length, offset, string, sizeof string, reports[1], sizeof reports[1]);
+    for (size_t out_len = 0; out_len <= FSQ_STRING_LENGTH; out_len++) {
+        uint8_t *o = lend(out, out_len), answer = fsq_shortest(record, length, offset, o, out_len, reports[2], sizeof reports[2]);
+        const char *wrong = NULL;
+        calls++;
+        refusals += answer != FSQ_DONE;
+        if (listed != encoded || (listed != FSQ_DONE && (answer != encoded || memcmp(reports[2], reports[1], sizeof reports[1]) != 0)))
+            wrong = "another refusal than the encoder's";
+        else if (listed == FSQ_DONE && (answer != (out_len < list[0] ? FSQ_SLICE_TOO_SHORT : FSQ_DONE) || list[0] > reports[1][FSQ_REPORT_LENGTH_AT]))
+            wrong = "another length than the first entry's";
+        else if (answer == FSQ_DONE && (reports[2][FSQ_REPORT_LENGTH_AT] != list[0] || memcmp(o, list + 1, list[0]) != 0))
+            wrong = "other bytes than the first entry's";
+        if (wrong != NULL)
+            failed("fsq_shortest", wrong, length, out_len, sizeof reports[2], answer);
+    }
 }
 
 /* The inline function beside the library's. Null are, by the bits of `nulls`, the text (with its length) and the value. */
@@ -378,12 +413,16 @@ int main(int argc, char **argv) {
                     to[FSQ_OPERATION_AT] = (uint8_t) (FSQ_MOVSB + below(10));
             }
             record = lend_in(record_len == RECORD && !repeated ? file + at : record_57, record_len, change);
-            for (size_t i = 0; i < sizeof strings / sizeof *strings; i++)
+            for (size_t i = 0; i < sizeof strings / sizeof *strings; i++) {
                 call_all(ENCODE, record, record_len, strings[i]);
+                call_all(SHORTEST, record, record_len, strings[i]);
+            }
+            shortest_beside(record, record_len);
             call_all(LIST, record, record_len, lists[below(6)]);
             for (size_t i = 0; i < sizeof lines / sizeof *lines; i++)
                 call_all(FORM, record, record_len, lines[i]);
             call_inline_all(ENCODE, BYTES, record, record_len, strings[below(10)]);
+            call_inline_all(SHORTEST, BYTES, record, record_len, strings[below(10)]);
             call_inline_all(LIST, BYTES, record, record_len, 0);
             call_inline_all(FORM, BYTES, record, record_len, 0);
             /* Bytes that are random but for the first. */
@@ -401,6 +440,7 @@ int main(int argc, char **argv) {
                 enum taken by = with ? REPEAT : RECORD;
                 record = lend_in(with || repeated ? record_57 : file + at, (size_t) by, change);
                 call_inline_all(ENCODE, by, record, (size_t) by, strings[below(10)]);
+                call_inline_all(SHORTEST, by, record, (size_t) by, strings[below(10)]);
                 call_inline_all(LIST, by, record, (size_t) by, 0);
                 call_inline_all(FORM, by, record, (size_t) by, 0);
                 for (int number = -1; number < 3; number++)

@@ -134,11 +134,11 @@ short-from insn off h (refused e) q = tt
 short-from insn off h (bytes bs) q = accepted-reads insn off h bs q .short
 
 module _ (d : Emitted) where
-  len-of : (a : Answer) → Short a → d ≡ emitted emptyRun a → d .run .len ≤ 7
+  pub len-of : (a : Answer) → Short a → d ≡ emitted emptyRun a → d .run .len ≤ 7
   len-of (refused e) sh hd = rw hd (omega arith)
   len-of (bytes bs) sh hd = rw (hd, all-holds bs sh .count) sh
 
-  refused-by : (a : Answer) (e : EncodeError) → d ≡ emitted emptyRun a → d .refusal ≡ R.Because e → a ≡ refused e
+  pub refused-by : (a : Answer) (e : EncodeError) → d ≡ emitted emptyRun a → d .refusal ≡ R.Because e → a ≡ refused e
   refused-by (refused x) e hd nd = cc
   refused-by (bytes bs) e hd nd = let z : _≡_ {A = ℕ} 0 1 = cc in absurd (omega arith)
 
@@ -150,7 +150,7 @@ module _ (d : Emitted) where
   length-by (refused e) sh hd nd = let z : _≡_ {A = ℕ} 0 1 = cc in absurd (omega arith)
   length-by (bytes bs) sh hd nd = rw (hd, all-holds bs sh .count)
 
-  out-by : (span : Span) (s : List ℕ) (a : Answer) (x : List ℕ) (t : Bool) → Short a → d ≡ emitted emptyRun a → d .refusal ≡ R.None
+  pub out-by : (span : Span) (s : List ℕ) (a : Answer) (x : List ℕ) (t : Bool) → Short a → d ≡ emitted emptyRun a → d .refusal ≡ R.None
       → t ≡ leb (d .run .len) (length s)
       → x ≡ pick (leb (d .run .len) (length s)) (take (d .run .len) (d .run .bytes) ++ drop (d .run .len) s) s
       → (pick t (N.Length (d .run .len)) (N.Refused (E.SliceTooShort span)) ≡ outcome a span s) × (x ≡ sliceAfter a s)

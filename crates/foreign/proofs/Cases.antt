@@ -36,6 +36,8 @@ use Rattle.encode_spec.specs.Answer.{answer}
 use Rattle.foreign.specs.EncodeRecord.{recordOf, responseOf, responseRecord}
 use Rattle.foreign.specs.EvaluateText.{responseAnswer}
 use Rattle.foreign.specs.ListRecord.{responseListing}
+use Rattle.foreign.specs.ShortestRecord.{responseShortest}
+use Rattle.shortest_encoder.specs.Shortest.{shortestAnswer}
 use Rattle.foreign.specs.LoadShow.{responseLoadError, responseLoaded}
 use Rattle.foreign.specs.ReadBytes.{operandHead, operandValues, readBytes}
 
@@ -58,7 +60,7 @@ its-number R.WrongLength = refl
 its-number (R.UnknownCode k) = refl
 its-number (R.Record k e) = refl
 
--- ---- a record's own refusals, in fsq_encode and fsq_list
+-- ---- a record's own refusals, in fsq_encode, fsq_shortest and fsq_list
 -- an operation without operands, with the span of the rows above
 abbrev plain : ℕ → List ℕ
 plain op = (op ∷ 0 ∷ spanBytes) ++ replicate 46 0
@@ -78,6 +80,8 @@ record Lists : Type 0 where
   -- the record's length before its codes
   encode-short : responseRecord (recordOf (99 ∷ replicate 54 0)) 0 [] .number ≡ 14
   encode-unknown : responseRecord (recordOf (plain 99)) 0 [] .number ≡ 15
+  shortest-short : responseShortest (recordOf (99 ∷ replicate 54 0)) 0 [] .number ≡ 14
+  shortest-unknown : responseShortest (recordOf (plain 99)) 0 [] .number ≡ 15
   list-short : responseListing (recordOf (99 ∷ replicate 54 0)) 0 [] .number ≡ 14
   list-long : responseListing (recordOf (plain 97 ++ (0 ∷ 0 ∷ []))) 0 (replicate 96 0) .number ≡ 14
   list-unknown : responseListing (recordOf (plain 99)) 0 [] .number ≡ 15
@@ -86,6 +90,8 @@ record Lists : Type 0 where
   encode-unknown-kind : responseRecord (recordOf unknownKind) 0 [] .number ≡ 15
   list-unknown-kind : responseListing (recordOf unknownKind) 0 [] .number ≡ 15
   -- INT1: 7 before 9
+  shortest-refused : responseShortest (recordOf (plain 82)) 0 [] .number ≡ 7
+  shortest-refused-report : reportBytes (responseShortest (recordOf (plain 82)) 0 []) ≡ refusal
   list-refused : responseListing (recordOf (plain 82)) 0 [] .number ≡ 7
   list-refused-report : reportBytes (responseListing (recordOf (plain 82)) 0 []) ≡ refusal
   -- 57 bytes: MOVSB with F3 fits two bytes; LOCK with F3, and MOVSB with 99, are 23 with the span, before 9 and 7 but behind 15 (No. 11)
@@ -93,6 +99,7 @@ record Lists : Type 0 where
   encode-rep-lock : responseRecord (recordOf (repeated 96 0xF3)) 0 [] .number ≡ 23
   encode-repeat-99 : responseRecord (recordOf (repeated 48 99)) 0 [] .number ≡ 23
   encode-repeat-99-report : reportBytes (responseRecord (recordOf (repeated 48 99)) 0 []) ≡ refusal
+  shortest-repeat-99 : responseShortest (recordOf (repeated 48 99)) 0 [] .number ≡ 23
   encode-repeat-code : responseRecord (recordOf (repeated 99 99)) 0 [] .number ≡ 15
   list-rep-int1 : responseListing (recordOf (repeated 82 0xF3)) 0 [] .number ≡ 23
   -- HLT: 9 in 95 bytes
@@ -102,22 +109,27 @@ record Lists : Type 0 where
   encode-0-report : reportBytes (responseRecord (recordOf (plain 93)) 0 []) ≡ refusal
 
 lists : Lists
-unfolding u32Bytes responseOf recordOf codesKnown operandKnown Ops.operations instructionAt operandAt answer questions wellFormed prefix isRepeat Ops.isString groupedOf formsOf forms Ops.numberOf layout
+unfolding u32Bytes responseOf recordOf codesKnown operandKnown Ops.operations instructionAt operandAt answer shortestAnswer questions wellFormed prefix isRepeat Ops.isString groupedOf formsOf forms Ops.numberOf layout
 lists = record {
   encode-short = refl;
   encode-unknown = refl;
+  shortest-short = refl;
+  shortest-unknown = refl;
   list-short = refl;
   list-long = refl;
   list-unknown = refl;
   list-unknown-report = refl;
   encode-unknown-kind = refl;
   list-unknown-kind = refl;
+  shortest-refused = refl;
+  shortest-refused-report = refl;
   list-refused = refl;
   list-refused-report = refl;
   encode-rep-movsb = refl;
   encode-rep-lock = refl;
   encode-repeat-99 = refl;
   encode-repeat-99-report = refl;
+  shortest-repeat-99 = refl;
   encode-repeat-code = refl;
   list-rep-int1 = refl;
   list-95 = refl;

@@ -1,4 +1,5 @@
 pub mod EncodeRecord
+pub mod ShortestRecord
 pub mod EvaluateText
 pub mod ListRecord
 pub mod LoadShow

@@ -6,3 +6,4 @@ pub mod form;
 pub mod list;
 pub mod load;
 pub mod read;
+pub mod shortest;

@@ -1,7 +1,7 @@
-//! Encodes Word ADD [BX],5, tells its form, reads it back, lists all of its strings, and shows a refusal with its question; then REP MOVSB, encoded and
-//! read; and evaluates a sum.
+//! Encodes Word ADD [BX],5, tells its form, reads it back, lists all of its strings, writes it with DS: and by the shortest string, and shows a refusal with
+//! its question; then REP MOVSB, encoded and read; and evaluates a sum.
 
-use fsq::{encode, evaluate, form, list, read, Base, Instruction, Operand, Operation, Refusal, Repeat};
+use fsq::{encode, encode_shortest, evaluate, form, list, read, Base, Instruction, Operand, Operation, Refusal, Repeat, Segment};
 
 fn main() -> Result<(), Refusal> {
     let add = Instruction::two(Operation::ADD, Operand::memory(Base::BX, 0).word(), 5);
@@ -11,6 +11,11 @@ fn main() -> Result<(), Refusal> {
     println!("read: {}", read(&bytes, 256)?);
     println!("listed: {}", list(&add, 256)?.len());
     print!("{}", list(&add, 256)?);
+
+    // DS is the default segment of [BX].
+    let add_ds = Instruction::two(Operation::ADD, Operand::memory(Base::BX, 0).word().in_segment(Segment::DS), 5);
+    println!("encoded with DS: {}", encode(&add_ds, 256)?);
+    println!("shortest: {}", encode_shortest(&add_ds, 256)?);
 
     let mov = Instruction::two(Operation::MOV, Operand::memory(Base::BX, 0).byte(), 300);
     if let Err(refusal) = encode(&mov, 256) {

@@ -12,6 +12,15 @@ extern "C" {
         report: *mut u8,
         report_len: usize,
     ) -> u8;
+    pub fn fsq_shortest(
+        record: *const u8,
+        record_len: usize,
+        offset: u16,
+        out: *mut u8,
+        out_len: usize,
+        report: *mut u8,
+        report_len: usize,
+    ) -> u8;
     pub fn fsq_list(
         record: *const u8,
         record_len: usize,

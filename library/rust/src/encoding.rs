@@ -141,3 +141,37 @@ pub fn encode_record(record: &[u8], offset: u16) -> Result<Bytes, Refusal> {
     let length = library::encode(record, offset, &mut out)?;
     Ok(Bytes::new(length as u8, out))
 }
+
+/// Encodes an instruction at an offset by the first string of its [`list`](crate::list): none of the same instruction is shorter there, and of the same
+/// length none is lower. Two instructions that are the same get the same bytes. It is refused where [`encode`] refuses it, and with the same refusal.
+///
+/// ```
+/// use fsq::{encode, encode_shortest, Base, Instruction, Operand, Operation, Register, Segment};
+///
+/// // Document 02, No. 8: a prefix that names the default segment is left out.
+/// let mov = Instruction::two(Operation::MOV, Register::AX, Operand::memory(Base::BX, 0).in_segment(Segment::DS));
+/// assert_eq!(encode(&mov, 0)?, [0x3E, 0x8B, 0x07]);
+/// assert_eq!(encode_shortest(&mov, 0)?, [0x8B, 0x07]);
+/// # Ok::<(), fsq::Refusal>(())
+/// ```
+pub fn encode_shortest(instruction: &Instruction, offset: u16) -> Result<Bytes, Refusal> {
+    encode_shortest_record(&instruction.to_record(), offset)
+}
+
+/// Encodes a record of a show file at an offset by the shortest string of its instruction; any 56 or 57 bytes are safe. It is refused where
+/// [`encode_record`] refuses it.
+///
+/// ```
+/// use fsq::{encode_shortest_record, Instruction, Operation, Reason};
+///
+/// // Document 02, Nos. 1 and 8: E9 and EB to one target are the same instruction.
+/// let record = Instruction::one(Operation::JMP, 5).to_record();
+/// assert_eq!(encode_shortest_record(&record, 0)?, [0xEB, 0x03]);
+/// assert_eq!(encode_shortest_record(&record[1..], 0).unwrap_err().reason, Reason::WrongLength);
+/// # Ok::<(), fsq::Refusal>(())
+/// ```
+pub fn encode_shortest_record(record: &[u8], offset: u16) -> Result<Bytes, Refusal> {
+    let mut out = [0; FSQ_STRING_LENGTH];
+    let length = library::shortest(record, offset, &mut out)?;
+    Ok(Bytes::new(length as u8, out))
+}

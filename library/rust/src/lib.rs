@@ -37,6 +37,18 @@
 //! # Ok::<(), fsq::Refusal>(())
 //! ```
 //!
+//! [`encode_shortest`] gives the first string of the list, of which none is shorter:
+//!
+//! ```
+//! use fsq::{encode, encode_shortest, Instruction, Operation, Register};
+//!
+//! // Document 01's bench sheet has 83 C0 05 for ADD AX,5; of its three strings 05 05 00 stands first.
+//! let add = Instruction::two(Operation::ADD, Register::AX, 5);
+//! assert_eq!(encode(&add, 0)?, [0x83, 0xC0, 0x05]);
+//! assert_eq!(encode_shortest(&add, 0)?, [0x05, 0x05, 0x00]);
+//! # Ok::<(), fsq::Refusal>(())
+//! ```
+//!
 //! A repeat belongs to its string operation, and is read with it; a show with one is a file of version 3:
 //!
 //! ```
@@ -86,7 +98,7 @@ mod show;
 mod sum;
 mod text;
 
-pub use encoding::{encode, encode_record, Bytes};
+pub use encoding::{encode, encode_record, encode_shortest, encode_shortest_record, Bytes};
 pub use form::{form, form_record, Form};
 pub use instruction::{Instruction, RecordBytes, Repeat, RECORD_LENGTH, REPEAT_RECORD_LENGTH};
 pub use listing::{list, list_record, List};

@@ -4,8 +4,8 @@
 //! functions write nothing outside of them, and only what a call's contract says.
 
 use crate::bindings::{
-    fsq_encode, fsq_evaluate, fsq_form, fsq_list, fsq_load, fsq_read, FSQ_DONE, FSQ_FORM_LENGTH, FSQ_HEADER_LENGTH, FSQ_INVALID_REPEAT,
-    FSQ_NO_RECORD, FSQ_READING_LENGTH, FSQ_REPORT_HIGH_AT, FSQ_REPORT_LENGTH, FSQ_REPORT_LENGTH_AT, FSQ_REPORT_LOW_AT,
+    fsq_encode, fsq_evaluate, fsq_form, fsq_list, fsq_load, fsq_read, fsq_shortest, FSQ_DONE, FSQ_FORM_LENGTH, FSQ_HEADER_LENGTH,
+    FSQ_INVALID_REPEAT, FSQ_NO_RECORD, FSQ_READING_LENGTH, FSQ_REPORT_HIGH_AT, FSQ_REPORT_LENGTH, FSQ_REPORT_LENGTH_AT, FSQ_REPORT_LOW_AT,
     FSQ_REPORT_RECORD_AT, FSQ_REPORT_SPAN_END_AT, FSQ_REPORT_SPAN_START_AT, FSQ_REPORT_VALUE_AT, FSQ_SLICE_TOO_SHORT, FSQ_STRING_LENGTH,
 };
 use crate::refusal::{question_of, Found, Reason, Refusal};
@@ -19,6 +19,15 @@ pub fn encode(record: &[u8], offset: u16, out: &mut [u8]) -> Result<usize, Refus
     // SAFETY: live slices, of which the two that are written overlap with nothing.
     let number =
         unsafe { fsq_encode(record.as_ptr(), record.len(), offset, out.as_mut_ptr(), out.len(), report.as_mut_ptr(), report.len()) };
+    answered(number, &report, |refusal| of_record(refusal, record))
+}
+
+/// The number of bytes at the front of out, those of the shortest string.
+pub fn shortest(record: &[u8], offset: u16, out: &mut [u8]) -> Result<usize, Refusal> {
+    let mut report = [0; FSQ_REPORT_LENGTH];
+    // SAFETY: as in encode.
+    let number =
+        unsafe { fsq_shortest(record.as_ptr(), record.len(), offset, out.as_mut_ptr(), out.len(), report.as_mut_ptr(), report.len()) };
     answered(number, &report, |refusal| of_record(refusal, record))
 }
 

@@ -1,4 +1,5 @@
-//! NASM beside our encoder: forced text gives equal bytes; what NASM writes for plain text stands in our list. Records without a repeat, then those with one.
+//! NASM beside our encoder: forced text gives equal bytes; what NASM writes for plain text stands in our list and is not shorter than our shortest string. Records
+//! without a repeat, then those with one.
 
 use crate::accepted::{self, Accepted};
 use crate::assembly::{text, Manner};
@@ -43,19 +44,20 @@ fn plain(sample: &[Accepted], failures: &mut Failures) {
     let before = failures.count();
     for ((accepted, line), theirs) in sample.iter().zip(&lines).zip(nasm::assemble(&lines)) {
         let list = library::list(&accepted.record.pack(), accepted.offset);
-        let stands = match (&theirs, &list) {
-            (Ok(theirs), Ok(list)) => list.contains(theirs),
+        let shortest = library::shortest(&accepted.record.pack(), accepted.offset);
+        let stands = match (&theirs, &list, &shortest) {
+            (Ok(theirs), Ok(list), Ok(shortest)) => list.contains(theirs) && shortest.len() <= theirs.len(),
             _ => false,
         };
         if stands {
             other += (theirs.as_deref() != Ok(&accepted.run.bytes[..accepted.run.len])) as u64;
         } else {
             let list: Vec<String> = list.unwrap_or_default().iter().map(|entry| hex(entry)).collect();
-            failures.add(&format!("{line}: NASM {} is not in [{}], {}", told(&theirs), list.join(" "), shown(accepted)));
+            failures.add(&format!("{line}: NASM {}, list [{}], shortest {shortest:X?}, {}", told(&theirs), list.join(" "), shown(accepted)));
         }
     }
     println!(
-        "assembler: plain text, {} records, {} with another string of the list, {} unexplained",
+        "assembler: plain text, {} records, {} with another string of the list, none shorter than the shortest string, {} unexplained",
         lines.len(),
         other,
         failures.count() - before

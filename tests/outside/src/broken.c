@@ -8,6 +8,7 @@ enum { REPNE = 0xF2, REP = 0xF3, MOVSB = 0xA4, NOP = 0x90 };
 extern __typeof__(fsq_encode) right_fsq_encode;
 extern __typeof__(fsq_read) right_fsq_read;
 extern __typeof__(fsq_list) right_fsq_list;
+extern __typeof__(fsq_shortest) right_fsq_shortest;
 
 static int fault(const char *name) {
     static const char *named;
@@ -148,5 +149,38 @@ uint8_t fsq_list(const uint8_t *rec, size_t n, uint16_t offset, uint8_t *out, si
     // 57 bytes not taken
     if (fault("repeat-not-listed") && n == FSQ_REPEAT_RECORD_LENGTH)
         return FSQ_WRONG_LENGTH;
+    return number;
+}
+
+uint8_t fsq_shortest(const uint8_t *rec, size_t n, uint16_t offset, uint8_t *out, size_t m, uint8_t *report, size_t k) {
+    uint8_t number, list[FSQ_LIST_LENGTH], own[FSQ_REPORT_LENGTH];
+    // the encoder's own string
+    if (fault("shortest-as-encoded"))
+        return right_fsq_encode(rec, n, offset, out, m, report, k);
+    number = right_fsq_shortest(rec, n, offset, out, m, report, k);
+    if (number != 0)
+        return number;
+    // the last entry, and the last of the shortest length
+    if (fault("shortest-as-the-last") || fault("shortest-not-the-lowest")) {
+        size_t last = 0;
+        (void) right_fsq_list(rec, n, offset, list, sizeof list, own, sizeof own);
+        while (last + 1 < own[0] && (fault("shortest-as-the-last") || list[(last + 1) * FSQ_ENTRY_LENGTH] == list[0]))
+            last++;
+        memcpy(out, list + last * FSQ_ENTRY_LENGTH + 1, FSQ_STRING_LENGTH);
+        report[0] = list[last * FSQ_ENTRY_LENGTH];
+    }
+    // the byte of 83 extended to any word, EB to any target, a segment that is not the default one left out
+    if (fault("shortest-83-for-200") && out[0] == 0x81) {
+        out[0] = 0x83;
+        report[0]--;
+    }
+    if (fault("shortest-eb-always") && out[0] == 0xE9) {
+        out[0] = 0xEB;
+        report[0] = 2;
+    }
+    if (fault("shortest-without-es") && out[0] == 0x26) {
+        memmove(out, out + 1, FSQ_STRING_LENGTH - 1);
+        report[0]--;
+    }
     return number;
 }

@@ -1,4 +1,4 @@
-//! The encoder, the reader and the lister behind their C functions.
+//! The encoder, also by the shortest string, the reader and the lister behind their C functions.
 
 use crate::bindings::*;
 use crate::meaning::{Meaning, Operand};
@@ -63,6 +63,17 @@ pub fn encode(record: &[u8], offset: u16) -> Result<Vec<u8>, u8> {
     let mut report = [0; FSQ_REPORT_LENGTH];
     let (n, m) = (out.len(), report.len());
     match unsafe { fsq_encode(record.as_ptr(), record.len(), offset, out.as_mut_ptr(), n, report.as_mut_ptr(), m) } {
+        FSQ_DONE => Ok(out[..report[FSQ_REPORT_LENGTH_AT] as usize].to_vec()),
+        number => Err(number),
+    }
+}
+
+/// The shortest string of a record's instruction, or the refusal.
+pub fn shortest(record: &[u8], offset: u16) -> Result<Vec<u8>, u8> {
+    let mut out = [0; FSQ_STRING_LENGTH];
+    let mut report = [0; FSQ_REPORT_LENGTH];
+    let (n, m) = (out.len(), report.len());
+    match unsafe { fsq_shortest(record.as_ptr(), record.len(), offset, out.as_mut_ptr(), n, report.as_mut_ptr(), m) } {
         FSQ_DONE => Ok(out[..report[FSQ_REPORT_LENGTH_AT] as usize].to_vec()),
         number => Err(number),
     }

@@ -1,4 +1,5 @@
-//! None missing, from outside: all strings of 1 to 3 bytes that our table reads, grouped by what a disassembler says that they mean, are our lists.
+//! None missing, from outside: all strings of 1 to 3 bytes that our table reads, grouped by what a disassembler says that they mean, are our lists, and the first
+//! of a group is the shortest string of its instruction.
 
 use crate::classes::{JOINED_BY_NDISASM, JOINED_BY_ZYDIS};
 use crate::groups::{ARITHMETIC, CONDITIONAL, LOOPS};
@@ -99,7 +100,14 @@ fn compare(name: &str, mut read: Vec<(Meaning, Short)>, used: [u64; CONVENTIONS.
                 continue;
             }
         };
+        let first = &group[0].1[1..1 + group[0].1[0] as usize];
+        let mut shortest = |record: &[u8]| match library::shortest(record, OFFSET) {
+            Ok(string) if string == first => (),
+            other => failures.add(&format!("{meaning:?}: the shortest string of record {} is {other:X?}, by {name} {}", hex(record), hex(first))),
+        };
+        shortest(&packed);
         if let Some(other) = also(meaning, &record).map(|record| record.pack()) {
+            shortest(&other);
             let second = library::list(&other, OFFSET);
             if second.as_ref() != Ok(&list) {
                 failures.add(&format!("{meaning:?}: record {} lists {list:?}, record {} {second:?}", hex(&packed), hex(&other)));
@@ -117,7 +125,7 @@ fn compare(name: &str, mut read: Vec<(Meaning, Short)>, used: [u64; CONVENTIONS.
         }
     }
     println!(
-        "lists: by {name}, {} strings of 1 to 3 bytes in {groups} groups ({alone} of one string), {longer} longer entries, {} unexplained",
+        "lists: by {name}, {} strings of 1 to 3 bytes in {groups} groups ({alone} of one string), the first of each the shortest string, {longer} longer entries, {} unexplained",
         read.len(),
         failures.count()
     );
@@ -194,7 +202,8 @@ fn by_ndisasm() -> bool {
     compare("ndisasm", read, used, &mut |_, _, _| {}) & (unread.count() == 0)
 }
 
-/// A longer string that reads stands in the list of a record of the meaning that Zydis gives it.
+/// A longer string that reads stands in the list of a record of the meaning that Zydis gives it, and the shortest string of that record, which Zydis reads as the same,
+/// does not stand behind it.
 fn longer(of_each: u64) -> bool {
     let zydis = Zydis::new();
     let mut failures = Failures::default();
@@ -207,12 +216,18 @@ fn longer(of_each: u64) -> bool {
         asked += 1;
         let string = &string[..length];
         let meaning = zydis.read(string).ok().and_then(|d| zydis.meaning(&d, OFFSET)).map(|(m, _)| m);
-        let list = meaning.map(|m| library::list(&record_of(&m).pack(), OFFSET));
+        let record = meaning.map(|m| record_of(&m).pack());
+        let list = record.map(|record| library::list(&record, OFFSET));
         if !matches!(&list, Some(Ok(list)) if list.iter().any(|entry| entry == string)) {
             failures.add(&format!("{} is {meaning:?}, list {list:?}", hex(string)));
         }
+        let shortest = record.and_then(|record| library::shortest(&record, OFFSET).ok()).unwrap_or_default();
+        let same = zydis.read(&shortest).ok().filter(|d| d.length as usize == shortest.len()).and_then(|d| zydis.meaning(&d, OFFSET)).map(|(m, _)| m);
+        if same != meaning || (shortest.len(), &shortest[..]) > (length, string) {
+            failures.add(&format!("{} is {meaning:?}, its shortest string {} is {same:?}", hex(string), hex(&shortest)));
+        }
     });
-    println!("lists: {asked} strings of 4 to 7 bytes, each in the list of what Zydis says it means, {} unexplained", failures.count());
+    println!("lists: {asked} strings of 4 to 7 bytes, each in the list of what Zydis says it means, and the shortest of it read as the same, {} unexplained", failures.count());
     failures.count() == 0 && asked > 0
 }
 
@@ -221,9 +236,10 @@ fn alone() -> bool {
     let mut failures = Failures::default();
     for (operation, byte) in [(op::LOCK, 0xF0), (op::REPNE, 0xF2), (op::REP, 0xF3)] {
         let record = without_operands(operation);
-        for list in [library::list(&record.pack(), OFFSET), library::list(&library::with_repeat(&record, 0), OFFSET)] {
-            if list != Ok(vec![vec![byte]]) {
-                failures.add(&format!("{}: list {list:?}", records::NAMES[operation as usize]));
+        for packed in [record.pack().to_vec(), library::with_repeat(&record, 0)] {
+            let (list, shortest) = (library::list(&packed, OFFSET), library::shortest(&packed, OFFSET));
+            if list != Ok(vec![vec![byte]]) || shortest != Ok(vec![byte]) {
+                failures.add(&format!("{}: list {list:?}, shortest {shortest:?}", records::NAMES[operation as usize]));
             }
         }
     }
@@ -248,11 +264,13 @@ fn repeated() -> bool {
         for repeat in [0, 0xF2, 0xF3] {
             lists += 1;
             let expected: Vec<u8> = [repeat].into_iter().filter(|b| *b != 0).chain(string.iter().copied()).collect();
-            let list = library::list(&library::with_repeat(&record, repeat), OFFSET);
+            let packed = library::with_repeat(&record, repeat);
+            let (list, shortest) = (library::list(&packed, OFFSET), library::shortest(&packed, OFFSET));
             let theirs = zydis.read(&expected).ok().filter(|d| d.length as usize == expected.len()).and_then(|d| zydis.meaning(&d, OFFSET)).map(|(m, _)| m);
             let same = theirs.is_some_and(|m| (m.operation, m.repeat) == (operation, repeat));
-            if list.as_deref() != Ok(&[expected.clone()]) || !same {
-                failures.add(&format!("{} behind {repeat:02X}: list {list:?}, {} is {theirs:?}", records::NAMES[operation as usize], hex(&expected)));
+            if list.as_deref() != Ok(&[expected.clone()]) || shortest.as_ref() != Ok(&expected) || !same {
+                let name = records::NAMES[operation as usize];
+                failures.add(&format!("{name} behind {repeat:02X}: list {list:?}, shortest {shortest:?}, {} is {theirs:?}", hex(&expected)));
             }
         }
     }

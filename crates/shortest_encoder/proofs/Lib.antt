@@ -1,0 +1,9 @@
+pub mod Steps
+pub mod Ways
+pub mod Loop
+pub mod First
+pub mod Accepted
+pub mod Shortest
+pub mod Short
+pub mod Refusals
+pub mod Cases
