@@ -12,7 +12,7 @@ import bindings
 import operations as scripts
 
 ROOT = pathlib.Path(__file__).resolve().parent.parent
-OPERATIONS, REFUSALS, VERSIONS = 99, 19, 3
+OPERATIONS, REFUSALS, VERSIONS = 99, 21, 3
 failures = []
 
 
@@ -80,7 +80,7 @@ def source():
         report='foreign_report/src/lib', read='foreign/src/read', encode='foreign/src/encode', load='foreign/src/load', operands='x86/src/operands', reader='reader/src/lib',
         slots='read_slots/src/lib', run='encode_run/src/lib', lister='lister/src/lib', entries='list_entries/src/lib', form='text_form/src/lib', ground='encode_form/src/lib',
         text='show_text/src/lib', x86='x86/src/lib', evaluate='foreign/src/evaluate', sum='sum_evaluate/src/lib', answer='sum_text/src/lib',
-        program='fsqsum/src/main').items()}
+        program='fsqsum/src/main', cues='cue_compile/src/lib', cue='foreign/src/cue', compiler='fsqcue/src/main').items()}
     sums = Text('crates/sum_spec/specs/Sums.antt')
     s = {}
 
@@ -105,7 +105,7 @@ def source():
             twice(enum, code['record'], {f'first unknown of {field}': known and int(''.join(known))}, {f'first unknown of {field}': count})
     twice('size', code['operands'], code['operands'].numbers(r'OperandSize::(\w+) => (\d+),', 3, snake), s['size'])
 
-    # Refusals: the encoder's, the loader's, the reader's, the evaluator's; then where they cross.
+    # Refusals: the encoder's, the loader's, the reader's, the evaluator's, the cue compiler's; then where they cross.
     s['answer'] = {'DONE': 0}
     s['answer'] |= code['file'].numbers(r'EncodeError::(\w+)\([_, ]*\) => (\d+),', 10, snake)
     s['answer'] |= {'NOT_AN_INSTRUCTION': code['reader'].number(r'Decoded::Nothing => Refusal::Is\((\d+)\)'), 'NOT_COMPLETE': code['reader'].number(r'Decoded::More => Refusal::Is\((\d+)\)')}
@@ -115,12 +115,19 @@ def source():
     s['answer'] |= sums.numbers(r'\nnumbered A\.(\w+) = refused (\d+)', 3, named)
     printed = code['answer'].numbers(r'Answer::(\w+) => push_refused\(line, (\d+)\),', 3, named)
     twice('refusal', code['answer'], printed, {name: s['answer'].get(name) for name in printed})
+    # The cue compiler's are one function of its error, which the library and fsqcue call; a short image has the encoder's number.
+    compiled = code['cues'].numbers(r'CueError::(\w+) => (\d+),', 3, lambda n: {'WrongLength': 'NOT_A_CUE_LIST', 'ImageTooShort': 'SLICE_TOO_SHORT'}.get(n, snake(n)))
+    s['answer'] = compiled | s['answer']
+    twice('refusal', code['cues'], compiled, {name: s['answer'].get(name) for name in compiled})
     if len(s['answer']) != REFUSALS + 1:
         wrong(f'the source has {len(s["answer"]) - 1} and not {REFUSALS} refusals')
     crossing = code['report'].numbers(r'EncodeError::(\w+)\(span\) => response_span\((\d+), span\)', 8, snake)
     crossing |= code['report'].numbers(r'EncodeError::(\w+)\(span, .*\) => Response \{\s*number: (\d+),', 2, snake)
     crossing |= code['load'].numbers(r'LoadError::(\w+)(?:\(k\))? => (?:of_record\()?response_alone\((\d+)\)', 4, snake)
     crossing |= code['evaluate'].numbers(r'Answer::(\w+) => response_alone\((\d+)\),', 3, named)
+    code['cue'].one(r'Compiled::Refused\(error\) => response_alone\(error\.number\(\)\)')
+    code['compiler'].one(r'io::print_decimal\(STDERR_FILENO, error\.number\(\) as u64\)')
+    crossing = compiled | crossing
     crossing |= {'NOT_AN_INSTRUCTION': code['read'].number(r'Decoded::Nothing => (\d+),'), 'NOT_COMPLETE': code['read'].number(r'Decoded::More => (\d+),')}
     twice('refusal', Text('crates/foreign', ''), {'DONE': 0} | crossing, s['answer'])
     record = dict(zip(('UNKNOWN_CODE', 'WRONG_LENGTH'), map(int, code['encode'].part(r'pub fn record_number\(').one(r'\}\s*return (\d+);\s*\}\s*(\d+)$') or ())))
@@ -156,6 +163,13 @@ def source():
         'MOST_DEPTH': sums.number(r'\nmostDepth = (\d+)')}
     for asked in (r'if depth <= (\d+) ', r'sum\(text, 0, (\d+)\)'):
         twice('limit', code['sum'], {'MOST_DEPTH': code['sum'].number(asked)}, {'MOST_DEPTH': s['limit']['MOST_DEPTH']})
+    limits = Text('crates/cue_compile/specs/Cues.antt')
+    cues = code['cues'].numbers(r'const (\w+): usize = (\d+);', 4)
+    s['limit']['MOST_CUES'] = cues.get('MOST_CUES')
+    twice('limit', limits, {'MOST_CUES': limits.number(r'\nmostCues = (\d+)')}, {'MOST_CUES': s['limit']['MOST_CUES']})
+    # A cue's fields where they are read; its delay has the two bytes at its front.
+    s['cue_field'] = code['cues'].numbers(r'(port|mask): cues\[at \+ (\d)\],', 2, lambda n: f'CUE_{n.upper()}_AT')
+    s['cue_field'] |= {'CUE_DELAY_AT': 0 if code['cues'].one(r'let low = cues\[at\];\s*let high = cues\[at \+ 1\];') else None}
     # Without repeats a count is of one version: so the header says both by SHORT_RECORDS, which is the text programs' limit too.
     twice('version', text, s['version'], {short: (0, s['limit']['SHORT_RECORDS']), long: (s['limit']['SHORT_RECORDS'] + 1, most), repeat: (0, most)})
     s['record bytes'] = {version: values['LONG_RECORD_LENGTH' if version == repeat else 'RECORD_LENGTH'] for version in s['version']}
@@ -168,6 +182,8 @@ def source():
         'REPORT_LENGTH': code['report'].number(r'if report\.len\(\) < (\d+) '), 'READING_LENGTH': code['read'].number(r'if out\.len\(\) < (\d+) '),
         'LIST_LENGTH': code['lister'].number(r'if out\.len\(\) < (\d+) '), 'ENTRY_LENGTH': entry, 'STRING_LENGTH': string, 'IMAGE_LENGTH': string * most,
         'FILE_LENGTH': header + values['LONG_RECORD_LENGTH'] * most, 'FORM_LENGTH': code['form'].number(r'pub const MOST_LINE: usize = (\d+);')}
+    s['length'] |= {'CUE_LENGTH': cues['CUE_LENGTH'], 'CUE_CODE_LENGTH': cues['CUE_CODE'], 'CUE_IMAGE_LENGTH': code['compiler'].number(r'let mut image = \[0; (\d+)\];')}
+    twice('length', code['compiler'], {'CUE_IMAGE_LENGTH': s['length']['CUE_IMAGE_LENGTH']}, {'CUE_IMAGE_LENGTH': cues['CUE_CODE'] * cues['MOST_CUES'] + cues['HALT_CODE']})
     twice('length', code['lister'], {'LIST_LENGTH': s['length']['LIST_LENGTH']}, {'LIST_LENGTH': entry * entries})
 
     # The report: three numbers of four bytes at a place.
@@ -320,6 +336,8 @@ def reference(s):
     texts = (*(texts or ()), text.one(r'`sum_text::write_answer`, which takes a slice of at least ([\d,]+) bytes') or '0')
     count += compare('text', place, dict(zip(('TEXT_RECORDS', 'MOST_TEXT', 'MOST_FORMS', 'MOST_ANSWER'), map(said, texts))), s['text'])
     count += compare('limit', place, {'MOST_DEPTH': text.number(r'\n\| Is it at most (\d+) brackets deep\? \|')}, {'MOST_DEPTH': s['limit']['MOST_DEPTH']})
+    cues = text.one(r'\n\| Is the length a multiple of (\d+), and are there at most (\d+) cues\? \|') or (0, 0)
+    count += compare('cues', place, dict(zip(('CUE_LENGTH', 'MOST_CUES'), map(int, cues))), {'CUE_LENGTH': s['length']['CUE_LENGTH'], 'MOST_CUES': s['limit']['MOST_CUES']})
     for enum, begin, names in (('kind', r'\| kind: ', r'\b(Imm|Reg|Seg|Mem) (\d)'), ('size', 'displacement size: ', r'\b(Unspecified|Byte|Word) (\d)'),
             ('jump', r'\| jump kind: ', r'\b(none|Far|Near|Short) (\d)')):
         given = text.part(begin, r' \|').numbers(names, len(s[enum]), lambda n: 'NO_KIND' if n == 'none' else n.upper())

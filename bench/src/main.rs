@@ -1,5 +1,5 @@
 //! What a call costs: our encoder, also by the shortest string, reader, lister, loader and the text of a form on the records of records.fsq, beside the Rust of
-//! docs/src and Zydis; and the value of a sum.
+//! docs/src and Zydis; the value of a sum, and cues.
 //! `build` wraps this file and the Rust's sources into one crate; see README.md.
 
 #[allow(dead_code, unused_imports)]
@@ -12,6 +12,7 @@ mod records;
 mod bindings;
 
 mod clock;
+mod cues;
 mod groups;
 mod rattle;
 mod rust;
@@ -41,9 +42,11 @@ pub fn main() -> ExitCode {
         ["short", file] => Show::read(file).and_then(|show| measure(&show, SHORT, 0, false)),
         ["listing", file] => Show::read(file).map(|show| show.print_listing()),
         ["texts"] => Ok(sums::Texts::delays().print()),
+        ["cues"] => cues::Sheet::new().print(),
         ["work", _, "sum-rattle", rounds] => work(sums::Texts::delays(), rounds),
+        ["work", _, "cue-rattle", rounds] => work(cues::Sheet::new(), rounds),
         ["work", file, side, rounds] => Show::read(file).and_then(|show| work(OnShow::new(&show, sides::named(side).ok_or(format!("no side {side}"))?), rounds)),
-        _ => Err("full FILE, short FILE, listing FILE, texts, or work FILE SIDE ROUNDS".to_string()),
+        _ => Err("full FILE, short FILE, listing FILE, texts, cues, or work FILE SIDE ROUNDS".to_string()),
     };
     match done {
         Ok(()) => ExitCode::SUCCESS,
@@ -70,6 +73,7 @@ fn measure(show: &Show, rounds: usize, warming: usize, timed: bool) -> Result<()
     println!("records: {}", groups::counts(show));
     println!("bytes: {}", sides::agree(show)?);
     println!("sums: {}", sums::agree()?);
+    println!("cues: {}", cues::agree()?);
 
     fn on<'a>(show: &'a Show, names: &[&str]) -> Vec<OnShow<'a>> {
         names.iter().filter_map(|name| Some(OnShow::new(show, sides::named(name)?))).collect()
@@ -83,6 +87,7 @@ fn measure(show: &Show, rounds: usize, warming: usize, timed: bool) -> Result<()
     let loads = clock(of(&["load-rattle", "load-rust"]), rounds, warming)?;
     let repeats = clock(of(&REPEATS), rounds / 10 + 1, warming / 10)?;
     let sums = clock(vec![sums::Texts::delays()], rounds, warming)?;
+    let cues = clock(vec![cues::Sheet::new()], rounds, warming)?;
     let grown = [1, 2, 4, 8].into_iter().map(|times| show.times(times)).collect::<Result<Vec<Show>, String>>()?;
     let grow = |names: &[&str]| clock(grown.iter().flat_map(|longer| on(longer, names)).collect(), rounds / 10 + 1, warming / 10);
     let encoded = grow(&["encode-rattle", "encode-rust"])?;
@@ -108,6 +113,7 @@ fn measure(show: &Show, rounds: usize, warming: usize, timed: bool) -> Result<()
         println!("{name}: rattle {figure}/record");
     }
     println!("sum: rattle {}/text", sums[0]);
+    println!("cue: rattle {}/cue", cues[0]);
     for (what, growth) in [("encodes", encoded), ("records loaded", loaded)] {
         for (longer, figures) in grown.iter().zip(growth.chunks(2)) {
             let n = longer.records.len();

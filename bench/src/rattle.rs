@@ -51,6 +51,13 @@ pub fn load(file: &[u8], image: &mut [u8], report: &mut Report) -> Option<usize>
     (number == FSQ_DONE).then(|| length(report))
 }
 
+/// The length of the image of cues, which stands at the front of image.
+#[inline]
+pub fn cue(cues: &[u8], image: &mut [u8], report: &mut Report) -> Option<usize> {
+    let number = unsafe { fsq_cue(cues.as_ptr(), cues.len(), image.as_mut_ptr(), image.len(), report.as_mut_ptr(), report.len()) };
+    (number == FSQ_DONE).then(|| length(report))
+}
+
 /// The value of a sum.
 #[inline]
 pub fn evaluate(text: &[u8], report: &mut Report) -> Option<i32> {

@@ -4,8 +4,8 @@
  *
  * This header has, in this order: the numbers and offsets; the functions of the library; and over them inline functions, which a program
  * needs no offsets for: operands (fsq_reg, fsq_mem, ..), records (fsq_none, fsq_one, fsq_two), records with a repeat (fsq_with_repeat), calls whose
- * answer is the length (fsq_encode_at, fsq_shortest_at, fsq_list_at, fsq_form_at, fsq_read_at, fsq_load_show), the value of a sum (fsq_evaluate_text),
- * fields, names, and the writing of a show file (fsq_write_show). library/examples/one.c and show.c use them.
+ * answer is the length (fsq_encode_at, fsq_shortest_at, fsq_list_at, fsq_form_at, fsq_read_at, fsq_load_show, fsq_compile_cues), the value of a sum
+ * (fsq_evaluate_text), fields, names, and the writing of a show file (fsq_write_show). library/examples/one.c, show.c and cues.c use them.
  *
  * The library's functions work on slices that the caller lends: an address and a length. For all of them:
  * - A slice of any length is safe. One of length 0 may have any address that is not null.
@@ -22,7 +22,7 @@
 
 /* The version of this header. Another major one may take a name away, another minor one adds some or raises a limit. */
 #define FSQ_VERSION_MAJOR 2
-#define FSQ_VERSION_MINOR 5
+#define FSQ_VERSION_MINOR 6
 
 #ifdef __cplusplus
 extern "C" {
@@ -49,6 +49,8 @@ enum fsq_answer {
     FSQ_NOT_A_SUM = 16,                   /* The text is not a sum, as fsq_evaluate has it. */
     FSQ_TOO_DEEP = 17,                    /* The sum is more than 16 brackets deep. */
     FSQ_VALUE_OUT_OF_RANGE = 18,          /* A value on the way is outside -2,147,483,648 to 2,147,483,647, or a divisor is 0. */
+    FSQ_NOT_A_CUE_LIST = 19,              /* The length is not a multiple of 4, or there are more than 200 cues. */
+    FSQ_NO_DELAY = 20,                    /* A cue has a delay of 0. */
     FSQ_INVALID_REPEAT = 23               /* The repeat is not 0, F2 or F3 (hexadecimal), or the operation is no string operation and has one. */
 };
 
@@ -65,7 +67,10 @@ enum fsq_length {
     FSQ_HEADER_LENGTH = 9,          /* what stands before the records of a show file */
     FSQ_OPERAND_LENGTH = 23,        /* an operand of a record */
     FSQ_IMAGE_LENGTH = 56000,       /* the longest image: a slice of so many bytes takes every one */
-    FSQ_FILE_LENGTH = 456009        /* the longest show file, of version 3 */
+    FSQ_FILE_LENGTH = 456009,       /* the longest show file, of version 3 */
+    FSQ_CUE_LENGTH = 4,             /* a cue */
+    FSQ_CUE_CODE_LENGTH = 9,        /* the four instructions of a cue; behind the last cue's stands HLT, one byte */
+    FSQ_CUE_IMAGE_LENGTH = 1801     /* the image of 200 cues: a slice of so many bytes takes every one of cues */
 };
 
 /* Limits, and the versions of a show file: one in which a record has a repeat is of version 3, and of the others the count decides. */
@@ -74,6 +79,7 @@ enum fsq_limit {
     FSQ_SHORT_RECORDS = 1000,  /* the most of a file of version 1, and of one that fsqlist and fsqform print */
     FSQ_MOST_ENTRIES = 12,     /* of a list */
     FSQ_MOST_DEPTH = 16,       /* brackets of a sum, one within the other */
+    FSQ_MOST_CUES = 200,       /* of a list */
     FSQ_FILE_VERSION = 1,      /* up to FSQ_SHORT_RECORDS records of 56 bytes */
     FSQ_LONG_VERSION = 2,      /* above FSQ_SHORT_RECORDS, of 56 bytes */
     FSQ_REPEAT_VERSION = 3     /* any number to FSQ_MOST_RECORDS, of 57 bytes; all repeats may be 0 */
@@ -103,6 +109,13 @@ enum fsq_header {
     FSQ_HEADER_VERSION_AT = 3,   /* u16: FSQ_FILE_VERSION, FSQ_LONG_VERSION above FSQ_SHORT_RECORDS, or FSQ_REPEAT_VERSION */
     FSQ_HEADER_ORIGIN_AT = 5,    /* u16: the offset of the first record */
     FSQ_HEADER_COUNT_AT = 7      /* u16: records, 0 to 1,000 of version 1, 1,001 to 8,000 of version 2, 0 to 8,000 of version 3 */
+};
+
+/* Where the fields of a cue stand: switch a port to a mask after a delay. */
+enum fsq_cue_field {
+    FSQ_CUE_DELAY_AT = 0,    /* u16: how often LOOP is carried out, 1 to 65,535 */
+    FSQ_CUE_PORT_AT = 2,     /* u8: where the mask goes */
+    FSQ_CUE_MASK_AT = 3      /* u8 */
 };
 
 /* Where the fields of a record of 56 bytes stand. Its two operands stand at 10 and 33; an operand that the instruction does not have is all zeros.
@@ -287,10 +300,19 @@ uint8_t fsq_load(const uint8_t *file, size_t file_len, uint8_t *image, size_t im
  */
 uint8_t fsq_evaluate(const uint8_t *text, size_t text_len, uint8_t *report, size_t report_len);
 
+/* Compiles cues to the image of a field module, from origin 0: for each cue MOV CX,delay; LOOP to itself; MOV AL,mask; OUT port,AL; and HLT at the end.
+ *   cues, cues_len       the cues, 0 to 200, of 4 bytes each: delay u16, port, mask
+ *   image, image_len     gets the program at its front, 9 bytes a cue and 1; its later bytes stay
+ *   report, report_len   gets the report where it has 28 bytes, else stays as it is; its length is that of the program, 1 to 1,801
+ *   answers              FSQ_DONE; FSQ_NOT_A_CUE_LIST where cues_len is not a multiple of 4 or above 800, then FSQ_NO_DELAY where a delay is 0, then
+ *                        FSQ_SLICE_TOO_SHORT, each without a span (docs/REFERENCE.md, 14)
+ */
+uint8_t fsq_cue(const uint8_t *cues, size_t cues_len, uint8_t *image, size_t image_len, uint8_t *report, size_t report_len);
+
 /* The inline functions.
  *
  * They stand over the library's functions and are compiled with the program that includes this header. They allocate nothing and keep nothing.
- * Where one answers an int, it is a length or a count, 0 or more, or a refusal's number made negative, -1 to -18 or -23:
+ * Where one answers an int, it is a length or a count, 0 or more, or a refusal's number made negative, -1 to -20 or -23:
  *
  *     int length = fsq_encode_at(&record, offset, out, sizeof out, &report);
  *     if (length < 0)
@@ -302,7 +324,7 @@ uint8_t fsq_evaluate(const uint8_t *text, size_t text_len, uint8_t *report, size
  * - The value of a sum may be negative: fsq_evaluate_text answers 0 and has the value beside it.
  */
 
-/* An operand, a record, a report, a read instruction and a list: their bytes, as the offsets above name them. A report cannot be too short, and a
+/* An operand, a record, a report, a read instruction, a list and a cue: their bytes, as the offsets above name them. A report cannot be too short, and a
  * list has the number of its entries beside them. A line is a string of C. A record with a repeat is a type of its own, so that it cannot be taken
  * for one without. */
 typedef struct fsq_operand_t { uint8_t bytes[FSQ_OPERAND_LENGTH]; } fsq_operand_t;
@@ -312,6 +334,7 @@ typedef struct fsq_report_t { uint8_t bytes[FSQ_REPORT_LENGTH]; } fsq_report_t;
 typedef struct fsq_reading_t { uint8_t bytes[FSQ_READING_LENGTH]; } fsq_reading_t;
 typedef struct fsq_list_t { uint8_t bytes[FSQ_LIST_LENGTH], count; } fsq_list_t;
 typedef struct fsq_line_t { char text[FSQ_FORM_LENGTH]; } fsq_line_t;
+typedef struct fsq_cue_t { uint8_t bytes[FSQ_CUE_LENGTH]; } fsq_cue_t;
 
 /* The little-endian number at an address, of two bytes, of four, and of four with a sign. */
 static inline uint16_t fsq_get_u16(const uint8_t *at) {
@@ -726,6 +749,52 @@ static inline int fsq_evaluate_text(const char *text, size_t text_len, int32_t *
     return -(int) answer;
 }
 
+/* A cue: switch a port to a mask after a delay.
+ *   delay     how often LOOP is carried out; 0 is refused with FSQ_NO_DELAY
+ *   port      the port
+ *   mask      what it gets
+ *   answers   the cue
+ */
+static inline fsq_cue_t fsq_cue_of(uint16_t delay, uint8_t port, uint8_t mask) {
+    fsq_cue_t cue = {{0}};
+    fsq_put_u16(cue.bytes + FSQ_CUE_DELAY_AT, delay);
+    cue.bytes[FSQ_CUE_PORT_AT] = port;
+    cue.bytes[FSQ_CUE_MASK_AT] = mask;
+    return cue;
+}
+
+/* Compiles the bytes of cues to the image of a field module: fsq_cue.
+ *   cues, cues_len     the cues, of 4 bytes each, as they stand in a file
+ *   image, image_len   gets the program at its front; its later bytes stay. FSQ_CUE_IMAGE_LENGTH bytes are enough for all cues
+ *   answers            the length of the program, 1 to 1,801, or a refusal's number made negative: -19, -20 or -9
+ */
+static inline int fsq_compile_bytes(const uint8_t *cues, size_t cues_len, uint8_t *image, size_t image_len) {
+    fsq_report_t own;
+    uint8_t answer;
+    if (cues == NULL) {
+        cues = own.bytes;
+        cues_len = 0;
+    }
+    if (image == NULL) {
+        image = own.bytes;
+        image_len = 0;
+    }
+    answer = fsq_cue(cues, cues_len, image, image_len, own.bytes, FSQ_REPORT_LENGTH);
+    return answer == FSQ_DONE ? (int) fsq_get_u32(own.bytes + FSQ_REPORT_LENGTH_AT) : -(int) answer;
+}
+
+/* The same of so many cues.
+ *   cues, count   the cues; more than 200 are not looked at, and refused with FSQ_NOT_A_CUE_LIST
+ *   the rest as of fsq_compile_bytes
+ */
+static inline int fsq_compile_cues(const fsq_cue_t *cues, size_t count, uint8_t *image, size_t image_len) {
+    if (cues == NULL)
+        count = 0;
+    if (count > FSQ_MOST_CUES)
+        return -FSQ_NOT_A_CUE_LIST;
+    return fsq_compile_bytes(cues != NULL ? cues->bytes : NULL, FSQ_CUE_LENGTH * count, image, image_len);
+}
+
 /* The fields of a report. One that the answer does not give is 0, and the record FSQ_NO_RECORD. */
 
 /* The length or count that the function answers. */
@@ -851,21 +920,21 @@ static inline uint16_t fsq_reading_far_segment(const fsq_reading_t *reading, uns
 
 /* Names. */
 
-/* Where the two lists below have an answer: by its number up to 18, then 23, then all that there is not. */
+/* Where the two lists below have an answer: by its number up to 20, then 23, then all that there is not. */
 static inline unsigned fsq_refusal_place(int answer) {
-    return answer >= 0 ? 0 : answer >= -FSQ_VALUE_OUT_OF_RANGE ? (unsigned) -answer : FSQ_VALUE_OUT_OF_RANGE + (answer == -FSQ_INVALID_REPEAT ? 1u : 2u);
+    return answer >= 0 ? 0 : answer >= -FSQ_NO_DELAY ? (unsigned) -answer : FSQ_NO_DELAY + (answer == -FSQ_INVALID_REPEAT ? 1u : 2u);
 }
 
 /* The name of a refusal, as enum fsq_answer has it without FSQ_.
  *   answer    what an inline function answers; what one of the library's answers is to be made negative
- *   answers   the name; "DONE" of 0 and every length, "UNKNOWN" of -19 to -22 and below -23
+ *   answers   the name; "DONE" of 0 and every length, "UNKNOWN" of -21, -22 and below -23
  */
 static inline const char *fsq_refusal_name(int answer) {
     static const char *const names[] = {
         "DONE", "INVALID_OPERANDS", "OPERAND_SIZE_NOT_SPECIFIED", "OPERAND_SIZES_DO_NOT_MATCH", "INVALID_OPERAND_SIZE",
         "IMMEDIATE_OUT_OF_RANGE", "RELATIVE_JUMP_OUT_OF_RANGE", "NOT_SUPPORTED", "NOT_WELL_FORMED", "SLICE_TOO_SHORT",
         "NOT_AN_INSTRUCTION", "NOT_COMPLETE", "NO_MARK", "WRONG_VERSION", "WRONG_LENGTH", "UNKNOWN_CODE",
-        "NOT_A_SUM", "TOO_DEEP", "VALUE_OUT_OF_RANGE", "INVALID_REPEAT", "UNKNOWN"
+        "NOT_A_SUM", "TOO_DEEP", "VALUE_OUT_OF_RANGE", "NOT_A_CUE_LIST", "NO_DELAY", "INVALID_REPEAT", "UNKNOWN"
     };
     return names[fsq_refusal_place(answer)];
 }
@@ -895,6 +964,8 @@ static inline const char *fsq_refusal_sentence(int answer) {
         "The text is not a sum of decimal numbers, + - * / and brackets, without blanks.",
         "The sum is more than 16 brackets deep.",
         "A value on the way is outside -2147483648 to 2147483647, or a divisor is 0.",
+        "The length is not a multiple of 4, or there are more than 200 cues.",
+        "A cue has a delay of 0.",
         "The repeat is neither REP nor REPNE, or the operation takes none.",
         "This header does not know the refusal."
     };

@@ -10,6 +10,7 @@ extern __typeof__(fsq_form) right_form;
 extern __typeof__(fsq_read) right_read;
 extern __typeof__(fsq_load) right_load;
 extern __typeof__(fsq_evaluate) right_evaluate;
+extern __typeof__(fsq_cue) right_cue;
 
 static int fault(const char *name) {
     const char *named = getenv("FSQ_FAULT");
@@ -333,5 +334,79 @@ uint8_t fsq_evaluate(const uint8_t *text, size_t n, uint8_t *report, size_t k) {
         report[FSQ_REPORT_SPAN_END_AT] = (uint8_t) n;
     if (fault("value-into-27-bytes") && k == FSQ_REPORT_LENGTH - 1)
         report[FSQ_REPORT_VALUE_AT] = 0;
+    return answer;
+}
+
+uint8_t fsq_cue(const uint8_t *cues, size_t n, uint8_t *image, size_t m, uint8_t *report, size_t k) {
+    uint8_t answer;
+    int reported = k >= FSQ_REPORT_LENGTH, without = 0;
+    size_t count = n / FSQ_CUE_LENGTH, length = FSQ_CUE_CODE_LENGTH * count + 1, i;
+    for (i = 0; i < count; i++)
+        without |= cues[FSQ_CUE_LENGTH * i] == 0 && cues[FSQ_CUE_LENGTH * i + 1] == 0;
+    if (fault("cue-written") && n > 0)
+        ((volatile uint8_t *) cues)[0] = cues[0];
+    if (fault("cue-byte-before-a-refusal") && m > 0)
+        image[0] = 0xB9;
+    // the order of the refusals
+    if (fault("cue-20-before-19") && without)
+        return FSQ_NO_DELAY;
+    if (fault("cue-9-before-20") && n % FSQ_CUE_LENGTH == 0 && count <= FSQ_MOST_CUES && m < length)
+        return FSQ_SLICE_TOO_SHORT;
+    if (fault("cue-9-before-19") && m < length)
+        return FSQ_SLICE_TOO_SHORT;
+    // what is refused
+    if (fault("cue-part-of-one-left-out") && n % FSQ_CUE_LENGTH != 0)
+        n -= n % FSQ_CUE_LENGTH;
+    if (fault("cue-of-two-bytes") && n % FSQ_CUE_LENGTH == 2)
+        n -= 2;
+    if (fault("cue-201-taken") && count == FSQ_MOST_CUES + 1)
+        n -= FSQ_CUE_LENGTH;
+    if (fault("cue-200-refused") && count == FSQ_MOST_CUES)
+        return FSQ_NOT_A_CUE_LIST;
+    if (fault("cue-first-delay-alone") && without && n % FSQ_CUE_LENGTH == 0 && count > 1 && count <= FSQ_MOST_CUES && (cues[0] != 0 || cues[1] != 0) && m >= length)
+        return FSQ_DONE;
+    if (fault("cue-low-byte-of-the-delay") && n >= FSQ_CUE_LENGTH && n % FSQ_CUE_LENGTH == 0 && count <= FSQ_MOST_CUES && cues[0] == 0)
+        return FSQ_NO_DELAY;
+    if (fault("cue-9-below-1801") && m < FSQ_CUE_IMAGE_LENGTH)
+        m = 0;
+    answer = right_cue(cues, n, image, m, report, k);
+    if (fault("cue-19-for-20") && answer == FSQ_NO_DELAY)
+        answer = FSQ_NOT_A_CUE_LIST;
+    if (fault("cue-14-for-19") && answer == FSQ_NOT_A_CUE_LIST)
+        answer = FSQ_WRONG_LENGTH;
+    if (fault("cue-span-of-9") && answer == FSQ_SLICE_TOO_SHORT && reported)
+        report[FSQ_REPORT_SPAN_END_AT] = 1;
+    if (fault("cue-named-as-a-record") && answer == FSQ_NO_DELAY && reported)
+        fsq_put_u32(report + FSQ_REPORT_RECORD_AT, 0);
+    if (answer != FSQ_DONE)
+        return answer;
+    // the image
+    if (fault("cue-port-and-mask-exchanged"))
+        for (i = 0; i < count; i++) {
+            image[9 * i + 6] = cues[4 * i + FSQ_CUE_PORT_AT];
+            image[9 * i + 8] = cues[4 * i + FSQ_CUE_MASK_AT];
+        }
+    if (fault("cue-delay-big-endian"))
+        for (i = 0; i < count; i++) {
+            image[9 * i + 1] = cues[4 * i + 1];
+            image[9 * i + 2] = cues[4 * i];
+        }
+    if (fault("cue-loop-to-the-mov"))
+        for (i = 0; i < count; i++)
+            image[9 * i + 4] = 0xFB;
+    if (fault("cue-of-dx") && count > 0)
+        image[9 * (count - 1)] = 0xBA;
+    if (fault("cue-without-hlt"))
+        image[length - 1] = 0x90;
+    if (fault("cue-byte-of-the-29th") && count > 28)
+        image[9 * 28] ^= 1;
+    if (fault("cue-byte-behind") && m > length)
+        image[length] ^= 1;
+    if (fault("cue-length-without-hlt") && reported)
+        fsq_put_u32(report + FSQ_REPORT_LENGTH_AT, (uint32_t) length - 1);
+    if (fault("cue-length-in-a-byte") && reported)
+        memset(report + FSQ_REPORT_LENGTH_AT + 1, 0, 3);
+    if (fault("cue-into-27-bytes") && k == FSQ_REPORT_LENGTH - 1)
+        memset(report, 0, 4);
     return answer;
 }

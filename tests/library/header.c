@@ -210,11 +210,13 @@ static void numbers(void) {
     CHECK(is(at, 5, "78 56 34 12 A5") && fsq_get_i32(at) == 0x12345678);
     fsq_put_u16(at, 0xABCD);
     CHECK(is(at, 3, "CD AB 34"));
-    CHECK(FSQ_VERSION_MAJOR == 2 && FSQ_VERSION_MINOR >= 5);
+    CHECK(FSQ_VERSION_MAJOR == 2 && FSQ_VERSION_MINOR >= 6);
     CHECK(FSQ_MOST_RECORDS == 8000 && FSQ_SHORT_RECORDS == 1000 && FSQ_IMAGE_LENGTH == 56000 && FSQ_FILE_LENGTH == 456009);
     CHECK(FSQ_FILE_VERSION == 1 && FSQ_LONG_VERSION == 2 && FSQ_REPEAT_VERSION == 3 && FSQ_RECORD_LENGTH == 56 && FSQ_REPEAT_RECORD_LENGTH == 57);
     CHECK(FSQ_REPEAT_NONE == 0 && FSQ_REPEAT_REPNE == 0xF2 && FSQ_REPEAT_REP == 0xF3 && FSQ_REPEAT_AT == 2 && FSQ_READ_REPEAT_AT == 5);
     CHECK(FSQ_INVALID_REPEAT == 23 && sizeof(fsq_repeat_record_t) == 57);
+    CHECK(FSQ_CUE_LENGTH == 4 && FSQ_CUE_CODE_LENGTH == 9 && FSQ_CUE_IMAGE_LENGTH == 1801 && FSQ_MOST_CUES == 200 && sizeof(fsq_cue_t) == 4);
+    CHECK(FSQ_CUE_DELAY_AT == 0 && FSQ_CUE_PORT_AT == 2 && FSQ_CUE_MASK_AT == 3);
     CHECK(sizeof(fsq_operand_t) == 23 && sizeof(fsq_record_t) == 56 && sizeof(fsq_report_t) == 28);
     CHECK(sizeof(fsq_reading_t) == 24 && sizeof(fsq_list_t) == 97 && sizeof(fsq_line_t) == 64);
 }
@@ -1113,6 +1115,104 @@ static void sums(void) {
     CHECK(FSQ_MOST_DEPTH == 16);
 }
 
+/* The bytes of cues, which the inline functions and the library's compile to this answer: the length with the image, or a refusal's number made negative. What
+ * is lent is filled before, and behind the image, or on a refusal all of it, stays. A report has the length and nothing else. */
+static void compiles(const uint8_t *cues, size_t length, size_t lent, int answer, const uint8_t *image, int line) {
+    static uint8_t out[FSQ_CUE_IMAGE_LENGTH + 40], expected[sizeof out];
+    uint8_t report[FSQ_REPORT_LENGTH + 1], told[FSQ_REPORT_LENGTH + 1] = {0};
+    int number = answer < 0 ? -answer : FSQ_DONE;
+    memset(expected, 0xA5, sizeof expected);
+    if (answer > 0)
+        memcpy(expected, image, (size_t) answer);
+    fsq_put_u32(told + FSQ_REPORT_LENGTH_AT, answer > 0 ? (uint32_t) answer : 0);
+    fsq_put_u32(told + FSQ_REPORT_RECORD_AT, FSQ_NO_RECORD);
+    told[FSQ_REPORT_LENGTH] = 0xA5;
+
+    memset(out, 0xA5, sizeof out);
+    check(fsq_compile_bytes(cues, length, out, lent) == answer && memcmp(out, expected, sizeof out) == 0, "by their bytes", line);
+    memset(out, 0xA5, sizeof out);
+    memset(report, 0xA5, sizeof report);
+    check(fsq_cue(cues, length, out, lent, report, sizeof report) == number && memcmp(out, expected, sizeof out) == 0
+          && memcmp(report, told, sizeof report) == 0, "by the library", line);
+    check(fsq_cue(cues, length, out, lent, report, FSQ_REPORT_LENGTH - 1) == number && memcmp(report, told, sizeof report) == 0, "without a whole report", line);
+    if (length % FSQ_CUE_LENGTH != 0)
+        return;
+    memset(out, 0xA5, sizeof out);
+    check(fsq_compile_cues((const fsq_cue_t *) cues, length / FSQ_CUE_LENGTH, out, lent) == answer && memcmp(out, expected, sizeof out) == 0, "by cues", line);
+}
+
+/* REFERENCE 14, document 02, No. 9; the bytes are the SDM's: MOV CX B8+1, LOOP E2 with the distance -2, MOV AL B0, OUT E6, HLT F4. */
+static void cues(void) {
+    static const int counts[] = {0, 1, 2, 139, 140, 199, 200};
+    static uint8_t some[4 * 250], image[9 * 250 + 1];
+    fsq_cue_t sheet[] = {fsq_cue_of(0x1234, 0x61, 0x80), fsq_cue_of(1, 255, 0), fsq_cue_of(65535, 0, 255)};
+    uint8_t out[40];
+    int i, k;
+    CHECK(is(sheet[0].bytes, 4, "34 12 61 80") && is(sheet[1].bytes, 4, "01 00 FF 00") && is(sheet[2].bytes, 4, "FF FF 00 FF"));
+    memset(out, 0xA5, sizeof out);
+    CHECK(fsq_compile_cues(sheet, 2, out, sizeof out) == 19);
+    CHECK(is(out, 20, "B9 34 12 E2 FE B0 80 E6 61 B9 01 00 E2 FE B0 00 E6 FF F4 A5"));
+    CHECK(fsq_compile_cues(sheet, 3, out, 28) == 28 && is(out + 18, 11, "B9 FF FF E2 FE B0 FF E6 00 F4 A5"));
+
+    for (k = 0; k < 250; k++) {
+        fsq_cue_t cue = fsq_cue_of((uint16_t) (65535 - 257 * k), (uint8_t) (7 * k), (uint8_t) (255 - k));
+        memcpy(some + 4 * k, cue.bytes, 4);
+        image[9 * k] = 0xB9;
+        memcpy(image + 9 * k + 1, cue.bytes, 2);
+        image[9 * k + 3] = 0xE2;
+        image[9 * k + 4] = 0xFE;
+        image[9 * k + 5] = 0xB0;
+        image[9 * k + 6] = (uint8_t) (255 - k);
+        image[9 * k + 7] = 0xE6;
+        image[9 * k + 8] = (uint8_t) (7 * k);
+    }
+    for (i = 0; i < (int) (sizeof counts / sizeof *counts); i++) {
+        int n = counts[i], length = 9 * n + 1;
+        uint8_t kept = image[9 * n];
+        image[9 * n] = 0xF4;
+        compiles(some, 4 * (size_t) n, (size_t) length, length, image, __LINE__);
+        compiles(some, 4 * (size_t) n, (size_t) length + 40, length, image, __LINE__);
+        compiles(some, 4 * (size_t) n, (size_t) length - 1, -FSQ_SLICE_TOO_SHORT, NULL, __LINE__);
+        compiles(some, 4 * (size_t) n, 0, -FSQ_SLICE_TOO_SHORT, NULL, __LINE__);
+        image[9 * n] = kept;
+        /* A length that is no multiple of four. */
+        for (k = 1; k < 4; k++)
+            compiles(some, 4 * (size_t) n + (size_t) k, FSQ_CUE_IMAGE_LENGTH, -FSQ_NOT_A_CUE_LIST, NULL, __LINE__);
+        /* One delay of 0: also the last one's, and before a slice that is too short. A byte of it that is 0 is not enough. */
+        for (k = 0; k < n; k = k < n - 1 ? n - 1 : n) {
+            uint8_t low = some[4 * k], high = some[4 * k + 1];
+            some[4 * k] = some[4 * k + 1] = 0;
+            compiles(some, 4 * (size_t) n, FSQ_CUE_IMAGE_LENGTH, -FSQ_NO_DELAY, NULL, __LINE__);
+            compiles(some, 4 * (size_t) n, 0, -FSQ_NO_DELAY, NULL, __LINE__);
+            some[4 * k] = 1;
+            CHECK(fsq_compile_bytes(some, 4 * (size_t) n, NULL, 0) == -FSQ_SLICE_TOO_SHORT);
+            some[4 * k] = 0;
+            some[4 * k + 1] = 1;
+            CHECK(fsq_compile_bytes(some, 4 * (size_t) n, NULL, 0) == -FSQ_SLICE_TOO_SHORT);
+            some[4 * k] = low;
+            some[4 * k + 1] = high;
+        }
+    }
+    /* 201 cues are 19, also with a delay of 0 and into nothing; 800 zero bytes are 20; no cues into no bytes is 9. */
+    compiles(some, 804, FSQ_CUE_IMAGE_LENGTH + 9, -FSQ_NOT_A_CUE_LIST, NULL, __LINE__);
+    compiles(some, 1000, FSQ_CUE_IMAGE_LENGTH + 9, -FSQ_NOT_A_CUE_LIST, NULL, __LINE__);
+    memset(some, 0, sizeof some);
+    compiles(some, 804, 0, -FSQ_NOT_A_CUE_LIST, NULL, __LINE__);
+    compiles(some, 3, 0, -FSQ_NOT_A_CUE_LIST, NULL, __LINE__);
+    compiles(some, 801, FSQ_CUE_IMAGE_LENGTH, -FSQ_NOT_A_CUE_LIST, NULL, __LINE__);
+    compiles(some, 800, 0, -FSQ_NO_DELAY, NULL, __LINE__);
+    compiles(some, 0, 0, -FSQ_SLICE_TOO_SHORT, NULL, __LINE__);
+
+    /* Null cues are none, whatever count comes with them; a null image has no byte. A count that is too large for a length is refused. */
+    CHECK(fsq_compile_cues(NULL, 0, out, sizeof out) == 1 && fsq_compile_cues(NULL, 5, out, sizeof out) == 1 && fsq_compile_cues(NULL, 201, out, sizeof out) == 1);
+    CHECK(fsq_compile_bytes(NULL, 0, out, sizeof out) == 1 && fsq_compile_bytes(NULL, 801, out, sizeof out) == 1 && out[0] == 0xF4);
+    CHECK(fsq_compile_cues(sheet, 1, NULL, 0) == -FSQ_SLICE_TOO_SHORT && fsq_compile_cues(sheet, 1, NULL, 100) == -FSQ_SLICE_TOO_SHORT);
+    CHECK(fsq_compile_bytes(NULL, 0, NULL, 100) == -FSQ_SLICE_TOO_SHORT);
+    CHECK(fsq_compile_cues(sheet, (size_t) -1, out, sizeof out) == -FSQ_NOT_A_CUE_LIST);
+    CHECK(fsq_compile_cues(sheet, ((size_t) -1) / 4 + 1, out, sizeof out) == -FSQ_NOT_A_CUE_LIST);
+    CHECK(fsq_compile_cues(sheet, ((size_t) -1) / 4 + 2, out, sizeof out) == -FSQ_NOT_A_CUE_LIST);
+}
+
 /* The names of REFERENCE 11, by the enumerators of the header, and its comments as sentences. */
 #define REFUSAL(name) CHECK(strcmp(fsq_refusal_name(-FSQ_##name), #name) == 0)
 /* operations.h, which tests/library/compilers writes, has OPERATION(name) for each of tools/operations.py. */
@@ -1139,26 +1239,28 @@ static void names(void) {
         "A record has an operation, kind, size or jump kind that does not exist.",
         "The text is not a sum of decimal numbers, + - * / and brackets, without blanks.",
         "The sum is more than 16 brackets deep.",
-        "A value on the way is outside -2147483648 to 2147483647, or a divisor is 0."
+        "A value on the way is outside -2147483648 to 2147483647, or a divisor is 0.",
+        "The length is not a multiple of 4, or there are more than 200 cues.",
+        "A cue has a delay of 0."
     };
     int number = 0, i;
     REFUSAL(DONE); REFUSAL(INVALID_OPERANDS); REFUSAL(OPERAND_SIZE_NOT_SPECIFIED); REFUSAL(OPERAND_SIZES_DO_NOT_MATCH);
     REFUSAL(INVALID_OPERAND_SIZE); REFUSAL(IMMEDIATE_OUT_OF_RANGE); REFUSAL(RELATIVE_JUMP_OUT_OF_RANGE); REFUSAL(NOT_SUPPORTED);
     REFUSAL(NOT_WELL_FORMED); REFUSAL(SLICE_TOO_SHORT); REFUSAL(NOT_AN_INSTRUCTION); REFUSAL(NOT_COMPLETE); REFUSAL(NO_MARK);
     REFUSAL(WRONG_VERSION); REFUSAL(WRONG_LENGTH); REFUSAL(UNKNOWN_CODE); REFUSAL(NOT_A_SUM); REFUSAL(TOO_DEEP); REFUSAL(VALUE_OUT_OF_RANGE);
-    REFUSAL(INVALID_REPEAT);
+    REFUSAL(NOT_A_CUE_LIST); REFUSAL(NO_DELAY); REFUSAL(INVALID_REPEAT);
     CHECK(strcmp(fsq_refusal_name(7), "DONE") == 0 && strcmp(fsq_refusal_name(56000), "DONE") == 0);
-    CHECK(FSQ_NOT_A_SUM == 16 && FSQ_TOO_DEEP == 17 && FSQ_VALUE_OUT_OF_RANGE == 18);
-    for (i = 0; i <= 18; i++)
+    CHECK(FSQ_NOT_A_SUM == 16 && FSQ_TOO_DEEP == 17 && FSQ_VALUE_OUT_OF_RANGE == 18 && FSQ_NOT_A_CUE_LIST == 19 && FSQ_NO_DELAY == 20);
+    for (i = 0; i <= 20; i++)
         CHECK(strcmp(fsq_refusal_sentence(-i), sentences[i]) == 0);
     CHECK(strcmp(fsq_refusal_sentence(-23), "The repeat is neither REP nor REPNE, or the operation takes none.") == 0);
-    /* 19 to 22 are no refusals of this library, and nothing is above 23. */
-    for (i = 19; i <= 260; i++) {
+    /* 21 and 22 are no refusals of this library, and nothing is above 23. */
+    for (i = 21; i <= 260; i++) {
         CHECK((strcmp(fsq_refusal_name(-i), "UNKNOWN") == 0) == (i != 23));
         CHECK((strcmp(fsq_refusal_sentence(-i), "This header does not know the refusal.") == 0) == (i != 23));
     }
     CHECK(strcmp(fsq_refusal_name(-2147483647 - 1), "UNKNOWN") == 0);
-    CHECK(fsq_refusal_sentence(7) == fsq_refusal_sentence(0) && fsq_refusal_sentence(-2147483647 - 1) == fsq_refusal_sentence(-19));
+    CHECK(fsq_refusal_sentence(7) == fsq_refusal_sentence(0) && fsq_refusal_sentence(-2147483647 - 1) == fsq_refusal_sentence(-21));
 #include "operations.h"
     CHECK(number == 99);
     for (i = LEAST; i <= OPERATIONS; i++)
@@ -1180,6 +1282,7 @@ int main(void) {
     repeat_shows();
     long_repeat_shows();
     sums();
+    cues();
     names();
     printf("header: %d checks, %d failed\n", checks, failures);
     return failures != 0;

@@ -1,6 +1,6 @@
 /* slices FILE: the library's functions and the header's inline functions over them on lent slices of every length that can matter, with the records of a
- * show file, whole and with a byte changed, each without a repeat and with one, and with texts of sums. A file of more records than version 1 has is
- * loaded only.
+ * show file, whole and with a byte changed, each without a repeat and with one, with texts of sums, and with cues. A file of more records than version 1
+ * has is loaded only.
  *
  * Every slice ends at a page that cannot be touched, or begins behind one, and what is only read cannot be written: a byte outside ends the program.
  * After each call is compared what it may change: on a refusal nothing but the report, else nothing behind what is answered; and the answer
@@ -86,6 +86,7 @@ uint8_t __real_fsq_form(const uint8_t *, size_t, uint16_t, uint8_t *, size_t, ui
 uint8_t __real_fsq_read(const uint8_t *, size_t, uint16_t, uint8_t *, size_t);
 uint8_t __real_fsq_load(const uint8_t *, size_t, uint8_t *, size_t, uint8_t *, size_t);
 uint8_t __real_fsq_evaluate(const uint8_t *, size_t, uint8_t *, size_t);
+uint8_t __real_fsq_cue(const uint8_t *, size_t, uint8_t *, size_t, uint8_t *, size_t);
 uint8_t __wrap_fsq_encode(const uint8_t *, size_t, uint16_t, uint8_t *, size_t, uint8_t *, size_t);
 uint8_t __wrap_fsq_shortest(const uint8_t *, size_t, uint16_t, uint8_t *, size_t, uint8_t *, size_t);
 uint8_t __wrap_fsq_list(const uint8_t *, size_t, uint16_t, uint8_t *, size_t, uint8_t *, size_t);
@@ -93,6 +94,7 @@ uint8_t __wrap_fsq_form(const uint8_t *, size_t, uint16_t, uint8_t *, size_t, ui
 uint8_t __wrap_fsq_read(const uint8_t *, size_t, uint16_t, uint8_t *, size_t);
 uint8_t __wrap_fsq_load(const uint8_t *, size_t, uint8_t *, size_t, uint8_t *, size_t);
 uint8_t __wrap_fsq_evaluate(const uint8_t *, size_t, uint8_t *, size_t);
+uint8_t __wrap_fsq_cue(const uint8_t *, size_t, uint8_t *, size_t, uint8_t *, size_t);
 
 uint8_t __wrap_fsq_encode(const uint8_t *record, size_t n, uint16_t offset, uint8_t *o, size_t m, uint8_t *r, size_t k) {
     handed("fsq_encode", record, n, o, m, r);
@@ -129,14 +131,19 @@ uint8_t __wrap_fsq_evaluate(const uint8_t *text, size_t n, uint8_t *r, size_t k)
     return __real_fsq_evaluate(text, n, r, k);
 }
 
-enum function { ENCODE, LIST, READ, LOAD, FORM, EVALUATE, SHORTEST };
+uint8_t __wrap_fsq_cue(const uint8_t *cues, size_t n, uint8_t *image, size_t m, uint8_t *r, size_t k) {
+    handed("fsq_cue", cues, n, image, m, r);
+    return __real_fsq_cue(cues, n, image, m, r, k);
+}
+
+enum function { ENCODE, LIST, READ, LOAD, FORM, EVALUATE, SHORTEST, CUE };
 
 /* The bytes that one of what a function counts has. */
-static const size_t each[] = {1, FSQ_ENTRY_LENGTH, 0, 1, 1, 0, 1};
+static const size_t each[] = {1, FSQ_ENTRY_LENGTH, 0, 1, 1, 0, 1, 1};
 
 /* One call. `bytes` is what it reads; the answer is compared with `first`, the one that a whole report came with, where that is not negative. */
 static int call(enum function function, const uint8_t *bytes, size_t length, uint16_t offset, size_t out_len, size_t report_len, int first) {
-    static const char *names[] = {"fsq_encode", "fsq_list", "fsq_read", "fsq_load", "fsq_form", "fsq_evaluate", "fsq_shortest"};
+    static const char *names[] = {"fsq_encode", "fsq_list", "fsq_read", "fsq_load", "fsq_form", "fsq_evaluate", "fsq_shortest", "fsq_cue"};
     room to = function == LOAD ? image : out;
     uint8_t *o = lend(to, out_len), *r = lend(report, report_len);
     const char *wrong = NULL;
@@ -147,6 +154,7 @@ static int call(enum function function, const uint8_t *bytes, size_t length, uin
         : function == FORM ? fsq_form(bytes, length, offset, o, out_len, r, report_len)
         : function == READ ? fsq_read(bytes, length, offset, o, out_len)
         : function == EVALUATE ? fsq_evaluate(bytes, length, r, report_len)
+        : function == CUE ? fsq_cue(bytes, length, o, out_len, r, report_len)
         : fsq_load(bytes, length, o, out_len, r, report_len);
     int reported = function != READ && report_len >= FSQ_REPORT_LENGTH;
     calls++;
@@ -318,6 +326,53 @@ static void evaluate_all(const char *text) {
         }
 }
 
+/* The inline functions beside the library's, by bytes and, where the length allows, by cues. Null are, by the bits of `nulls`, the cues (with their length) and the
+ * image (with its length). */
+static void call_compile(const uint8_t *cues, size_t length, size_t out_len, unsigned nulls) {
+    static uint8_t right[OUT];
+    size_t given = nulls & 1u ? 0 : length, lent = nulls & 2u ? 0 : out_len;
+    uint8_t right_report[FSQ_REPORT_LENGTH], number = fsq_cue(cues, given, right, lent, right_report, sizeof right_report);
+    int expected = number == FSQ_DONE ? (int) fsq_get_u32(right_report + FSQ_REPORT_LENGTH_AT) : -(int) number;
+    size_t written = number == FSQ_DONE ? (size_t) expected : 0;
+    for (int by = 0; by < (length % FSQ_CUE_LENGTH == 0 ? 2 : 1); by++) {
+        const uint8_t *from = nulls & 1u ? NULL : cues;
+        uint8_t *o = nulls & 2u ? NULL : lend(out, out_len);
+        int answer = by ? fsq_compile_cues((const fsq_cue_t *) from, length / FSQ_CUE_LENGTH, o, out_len) : fsq_compile_bytes(from, length, o, out_len);
+        const char *wrong = NULL;
+        calls++;
+        refusals += answer < 0;
+        if (given <= FSQ_MOST_CUES * FSQ_CUE_LENGTH && (read_len != given || written_len != lent))
+            wrong = "other lengths than were given";
+        else if (answer != expected)
+            wrong = "another answer than the library's";
+        else if (o != NULL && (memcmp(o, right, written) != 0 || !stays_but(out, o, written)))
+            wrong = "other bytes than the library's";
+        if (wrong != NULL)
+            failed(by ? "fsq_compile_cues" : "fsq_compile_bytes", wrong, given, lent, 0, answer);
+    }
+}
+
+/* Cues of random bytes, delays of 0 among them now and then, into an image around its length. */
+static void compile_all(void) {
+    static const size_t counts[] = {0, 1, 2, 3, 140, 199, 200, 201, 240};
+    static uint8_t cues[FSQ_CUE_LENGTH * 240];
+    for (size_t i = 0; i < sizeof counts / sizeof *counts; i++)
+        for (size_t more = 0; more < 5; more++)
+            for (int change = 0; change < 3; change++) {
+                size_t length = FSQ_CUE_LENGTH * counts[i] + (more == 4 ? below(4) : 0);
+                size_t out_len = more == 3 ? below(OUT) : FSQ_CUE_CODE_LENGTH * counts[i] + more;
+                const uint8_t *at;
+                for (size_t k = 0; k < length; k++)
+                    cues[k] = (uint8_t) (1 + below(change == 2 && k < 8 ? 1 : 255));
+                if (change == 2 && length >= 8)
+                    memset(cues + FSQ_CUE_LENGTH * below((uint32_t) (length / FSQ_CUE_LENGTH)), 0, 2);
+                at = lend_in(cues, length, change);
+                call_all(CUE, at, length, out_len);
+                for (unsigned nulls = 0; nulls < 4; nulls++)
+                    call_compile(at, length, out_len, nulls);
+            }
+}
+
 /* A record of so many bytes, or the header where the number is below 0, into a file of each length that can matter, and into none. */
 static void write_inline(room to, int number, const uint8_t *record, size_t each) {
     size_t n = number < 0 ? FSQ_HEADER_LENGTH : each, at = number < 0 ? 0 : FSQ_HEADER_LENGTH + (size_t) number * n, end = at + n;
@@ -452,6 +507,7 @@ int main(int argc, char **argv) {
         }
     for (size_t i = 0; i < sizeof sums / sizeof *sums && count <= FSQ_SHORT_RECORDS; i++)
         evaluate_all(sums[i]);
+    compile_all();
     for (int with = 0; with < 2; with++) {
         size_t each_of = with ? REPEAT : RECORD;
         write_inline(whole, FSQ_SHORT_RECORDS, lend_in(file + FSQ_HEADER_LENGTH, each_of, 0), each_of);

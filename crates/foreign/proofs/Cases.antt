@@ -1,4 +1,4 @@
--- What crosses, byte by byte: reports of the loader's answers and of the lister's refusals, and a read instruction with each extension and kind of operand.
+-- What crosses, byte by byte: reports of the loader's answers, of the lister's refusals, of sums and of cues, and a read instruction with each extension and kind of operand.
 -- Assumes nothing.
 use mathlib.Core.Path.{_≡_, refl}
 use mathlib.Core.Bool.{true}
@@ -21,6 +21,8 @@ use Rattle.show_file.specs.declared.LoadError.the-variants as R
 use Rattle.show_file.specs.Refusals.{numberOf}
 use Rattle.show_load.specs.declared.Loaded.the-variants as L
 use Rattle.sum_spec.specs.declared.Answer.the-variants as A
+use Rattle.cue_compile.specs.declared.CueError.the-variants as Q
+use Rattle.cue_compile.specs.declared.Compiled.the-variants as C
 use Rattle.foreign_report.specs.Crossing.{u32Bytes, reportBytes}
 use Rattle.foreign_report.proofs.Cases.{span, zeros4, spanBytes, zeros12, ones4}
 use Rattle.x86_forms.specs.declared.Extension.{Extension}
@@ -33,6 +35,7 @@ use Rattle.encode_spec.specs.Choice.{formsOf}
 use Rattle.encode_spec.specs.Layout.{layout}
 use Rattle.encode_spec.specs.Questions.{questions}
 use Rattle.encode_spec.specs.Answer.{answer}
+use Rattle.foreign.specs.CompileCues.{responseCompiled}
 use Rattle.foreign.specs.EncodeRecord.{recordOf, responseOf, responseRecord}
 use Rattle.foreign.specs.EvaluateText.{responseAnswer}
 use Rattle.foreign.specs.ListRecord.{responseListing}
@@ -198,3 +201,15 @@ record Sums : Type 0 where
 sums : Sums
 unfolding u32Bytes
 sums = record { value = refl; has-value = refl; no-sum = (refl, refl); too-deep = refl; out-of-range = (refl, refl) }
+
+-- ---- cues: the length, and refusals without a span or a record
+record Cues : Type 0 where
+  most : (responseCompiled (C.Length 1801) .number ≡ 0)
+      × (reportBytes (responseCompiled (C.Length 1801)) ≡ (9 ∷ 7 ∷ 0 ∷ 0 ∷ []) ++ (zeros4 ++ (zeros4 ++ (zeros12 ++ ones4))))
+  no-cue-list : (responseCompiled (C.Refused Q.WrongLength) .number ≡ 19) × (reportBytes (responseCompiled (C.Refused Q.WrongLength)) ≡ zeros12 ++ (zeros12 ++ ones4))
+  no-delay : (responseCompiled (C.Refused Q.NoDelay) .number ≡ 20) × (reportBytes (responseCompiled (C.Refused Q.NoDelay)) ≡ zeros12 ++ (zeros12 ++ ones4))
+  too-short : (responseCompiled (C.Refused Q.ImageTooShort) .number ≡ 9) × (reportBytes (responseCompiled (C.Refused Q.ImageTooShort)) ≡ zeros12 ++ (zeros12 ++ ones4))
+
+cues : Cues
+unfolding u32Bytes
+cues = record { most = (refl, refl); no-cue-list = (refl, refl); no-delay = (refl, refl); too-short = (refl, refl) }

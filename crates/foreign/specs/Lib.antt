@@ -1,3 +1,4 @@
+pub mod CompileCues
 pub mod EncodeRecord
 pub mod ShortestRecord
 pub mod EvaluateText

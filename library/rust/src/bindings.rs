@@ -42,6 +42,7 @@ extern "C" {
     pub fn fsq_read(bytes: *const u8, bytes_len: usize, offset: u16, out: *mut u8, out_len: usize) -> u8;
     pub fn fsq_load(file: *const u8, file_len: usize, image: *mut u8, image_len: usize, report: *mut u8, report_len: usize) -> u8;
     pub fn fsq_evaluate(text: *const u8, text_len: usize, report: *mut u8, report_len: usize) -> u8;
+    pub fn fsq_cue(cues: *const u8, cues_len: usize, image: *mut u8, image_len: usize, report: *mut u8, report_len: usize) -> u8;
 }
 
 // enum fsq_answer
@@ -64,6 +65,8 @@ pub const FSQ_UNKNOWN_CODE: u8 = 15;
 pub const FSQ_NOT_A_SUM: u8 = 16;
 pub const FSQ_TOO_DEEP: u8 = 17;
 pub const FSQ_VALUE_OUT_OF_RANGE: u8 = 18;
+pub const FSQ_NOT_A_CUE_LIST: u8 = 19;
+pub const FSQ_NO_DELAY: u8 = 20;
 pub const FSQ_INVALID_REPEAT: u8 = 23;
 
 // enum fsq_length
@@ -79,12 +82,16 @@ pub const FSQ_HEADER_LENGTH: usize = 9;
 pub const FSQ_OPERAND_LENGTH: usize = 23;
 pub const FSQ_IMAGE_LENGTH: usize = 56000;
 pub const FSQ_FILE_LENGTH: usize = 456009;
+pub const FSQ_CUE_LENGTH: usize = 4;
+pub const FSQ_CUE_CODE_LENGTH: usize = 9;
+pub const FSQ_CUE_IMAGE_LENGTH: usize = 1801;
 
 // enum fsq_limit
 pub const FSQ_MOST_RECORDS: u16 = 8000;
 pub const FSQ_SHORT_RECORDS: u16 = 1000;
 pub const FSQ_MOST_ENTRIES: u16 = 12;
 pub const FSQ_MOST_DEPTH: u16 = 16;
+pub const FSQ_MOST_CUES: u16 = 200;
 pub const FSQ_FILE_VERSION: u16 = 1;
 pub const FSQ_LONG_VERSION: u16 = 2;
 pub const FSQ_REPEAT_VERSION: u16 = 3;
@@ -103,6 +110,11 @@ pub const FSQ_HEADER_MARK_AT: usize = 0;
 pub const FSQ_HEADER_VERSION_AT: usize = 3;
 pub const FSQ_HEADER_ORIGIN_AT: usize = 5;
 pub const FSQ_HEADER_COUNT_AT: usize = 7;
+
+// enum fsq_cue_field
+pub const FSQ_CUE_DELAY_AT: usize = 0;
+pub const FSQ_CUE_PORT_AT: usize = 2;
+pub const FSQ_CUE_MASK_AT: usize = 3;
 
 // enum fsq_record
 pub const FSQ_OPERATION_AT: usize = 0;

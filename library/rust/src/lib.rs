@@ -1,5 +1,5 @@
 //! The proved 8086 encoder for show files: an instruction becomes bytes or one refusal, bytes become an instruction, an instruction the list of
-//! all its byte strings, a show file the image of its records, and a sum its value.
+//! all its byte strings, a show file the image of its records, a sum its value, and cues the image of a field module.
 //!
 //! ```
 //! use fsq::{encode, list, read, Base, Instruction, Operand, Operation};
@@ -69,11 +69,24 @@
 //! # Ok::<(), fsq::Refusal>(())
 //! ```
 //!
+//! [`compile`] makes cues the image of a field module, with no instruction to handle:
+//!
+//! ```
+//! # #[cfg(feature = "alloc")] {
+//! use fsq::{compile, Cue};
+//!
+//! // Document 02, No. 9: MOV CX,10; LOOP to itself; MOV AL,1; OUT 97,AL; HLT.
+//! let image = compile(&[Cue::new(10, 97, 1)])?;
+//! assert_eq!(image, [0xB9, 0x0A, 0x00, 0xE2, 0xFE, 0xB0, 0x01, 0xE6, 0x61, 0xF4]);
+//! # }
+//! # Ok::<(), fsq::Refusal>(())
+//! ```
+//!
 //! The functions keep nothing between calls, and several threads may call them at once. They are proved; the text of instructions and operands
 //! is not.
 //!
-//! Without the feature `std`, which is on by default, the crate is `no_std` and allocates nothing: `load`, `show_file` and `Show::load` are left
-//! out, and [`Show::load_into`] loads into a lent slice. The feature `alloc` has them without `std`.
+//! Without the feature `std`, which is on by default, the crate is `no_std` and allocates nothing: `load`, `show_file`, `Show::load` and `compile` are
+//! left out, and [`Show::load_into`] and [`compile_into`] write into a lent slice. The feature `alloc` has them without `std`.
 
 #![no_std]
 #![deny(missing_docs)]
@@ -83,6 +96,7 @@
 extern crate alloc;
 
 mod bindings;
+mod cue;
 mod encoding;
 mod form;
 mod instruction;
@@ -98,6 +112,9 @@ mod show;
 mod sum;
 mod text;
 
+#[cfg(feature = "alloc")]
+pub use cue::compile;
+pub use cue::{compile_bytes, compile_into, Cue};
 pub use encoding::{encode, encode_record, encode_shortest, encode_shortest_record, Bytes};
 pub use form::{form, form_record, Form};
 pub use instruction::{Instruction, RecordBytes, Repeat, RECORD_LENGTH, REPEAT_RECORD_LENGTH};

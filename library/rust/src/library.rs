@@ -4,7 +4,7 @@
 //! functions write nothing outside of them, and only what a call's contract says.
 
 use crate::bindings::{
-    fsq_encode, fsq_evaluate, fsq_form, fsq_list, fsq_load, fsq_read, fsq_shortest, FSQ_DONE, FSQ_FORM_LENGTH, FSQ_HEADER_LENGTH,
+    fsq_cue, fsq_encode, fsq_evaluate, fsq_form, fsq_list, fsq_load, fsq_read, fsq_shortest, FSQ_DONE, FSQ_FORM_LENGTH, FSQ_HEADER_LENGTH,
     FSQ_INVALID_REPEAT, FSQ_NO_RECORD, FSQ_READING_LENGTH, FSQ_REPORT_HIGH_AT, FSQ_REPORT_LENGTH, FSQ_REPORT_LENGTH_AT, FSQ_REPORT_LOW_AT,
     FSQ_REPORT_RECORD_AT, FSQ_REPORT_SPAN_END_AT, FSQ_REPORT_SPAN_START_AT, FSQ_REPORT_VALUE_AT, FSQ_SLICE_TOO_SHORT, FSQ_STRING_LENGTH,
 };
@@ -90,6 +90,14 @@ pub fn evaluate(text: &[u8]) -> Result<i32, Refusal> {
         FSQ_DONE => Ok(field(&report, FSQ_REPORT_VALUE_AT) as i32),
         _ => Err(refused(number, &report)),
     }
+}
+
+/// The number of bytes at the front of the image of cues. A refusal has no span, also 9.
+pub fn compile(cues: &[u8], image: &mut [u8]) -> Result<usize, Refusal> {
+    let mut report = [0; FSQ_REPORT_LENGTH];
+    // SAFETY: as in encode.
+    let number = unsafe { fsq_cue(cues.as_ptr(), cues.len(), image.as_mut_ptr(), image.len(), report.as_mut_ptr(), report.len()) };
+    answered(number, &report, |refusal| Refusal { span: None, ..refusal })
 }
 
 fn field(report: &Report, at: usize) -> u32 {

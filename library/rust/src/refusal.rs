@@ -57,6 +57,10 @@ pub enum Reason {
     TooDeep,
     /// 18: a value on the way is no `i32`, or a divisor is 0.
     ValueOutOfRange,
+    /// 19: the length of the cues is no multiple of 4, or there are more than 200.
+    NotACueList,
+    /// 20: a cue has a delay of 0.
+    NoDelay,
     /// 23: the repeat is neither F2 nor F3, or the operation is no string operation and has one.
     InvalidRepeat,
     /// Another number: one that the library has and this crate does not know.
@@ -237,7 +241,7 @@ pub(crate) fn question_of(number: u8, record: &[u8]) -> Option<u8> {
 }
 
 impl Reason {
-    /// The number: 1 to 18, 23, or another of a later library.
+    /// The number: 1 to 20, 23, or another of a later library.
     pub fn number(&self) -> u8 {
         match self {
             Reason::InvalidOperands => FSQ_INVALID_OPERANDS,
@@ -258,6 +262,8 @@ impl Reason {
             Reason::NotASum => FSQ_NOT_A_SUM,
             Reason::TooDeep => FSQ_TOO_DEEP,
             Reason::ValueOutOfRange => FSQ_VALUE_OUT_OF_RANGE,
+            Reason::NotACueList => FSQ_NOT_A_CUE_LIST,
+            Reason::NoDelay => FSQ_NO_DELAY,
             Reason::InvalidRepeat => FSQ_INVALID_REPEAT,
             Reason::Other(number) => *number,
         }
@@ -284,6 +290,8 @@ impl Reason {
             FSQ_NOT_A_SUM => Reason::NotASum,
             FSQ_TOO_DEEP => Reason::TooDeep,
             FSQ_VALUE_OUT_OF_RANGE => Reason::ValueOutOfRange,
+            FSQ_NOT_A_CUE_LIST => Reason::NotACueList,
+            FSQ_NO_DELAY => Reason::NoDelay,
             FSQ_INVALID_REPEAT => Reason::InvalidRepeat,
             other => Reason::Other(other),
         }
@@ -313,6 +321,10 @@ impl fmt::Display for Reason {
             Reason::NotASum => f.write_str("the text is not a sum of decimal numbers, + - * / and brackets, without blanks"),
             Reason::TooDeep => write!(f, "the sum is more than {FSQ_MOST_DEPTH} brackets deep"),
             Reason::ValueOutOfRange => write!(f, "a value on the way is outside {}..{}, or a divisor is 0", i32::MIN, i32::MAX),
+            Reason::NotACueList => {
+                write!(f, "the length is no multiple of {FSQ_CUE_LENGTH}, or there are more than {FSQ_MOST_CUES} cues")
+            }
+            Reason::NoDelay => f.write_str("a cue has a delay of 0"),
             Reason::InvalidRepeat => f.write_str("the repeat is neither REP nor REPNE, or the operation takes none"),
             Reason::Other(number) => write!(f, "the reason {number}, which this crate does not know"),
         }

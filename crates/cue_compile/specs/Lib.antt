@@ -1,0 +1,4 @@
+pub mod Cues
+pub mod Program
+pub mod Compiling
+pub mod Read
