@@ -6,9 +6,9 @@ import pathlib, re, sys
 
 HEADER = pathlib.Path(__file__).resolve().parent.parent / 'library/include/fsq.h'
 WIDTH = 140
-TYPES = {'uint8_t': 'u8', 'uint16_t': 'u16', 'size_t': 'usize', 'const uint8_t *': '*const u8', 'uint8_t *': '*mut u8'}
+TYPES = {'uint8_t': 'u8', 'uint16_t': 'u16', 'uint32_t': 'u32', 'size_t': 'usize', 'const uint8_t *': '*const u8', 'uint8_t *': '*mut u8'}
 # What is no byte of a record, reading or answer: a length or an offset is an index, a limit a field of a show file's header.
-NUMBERS = {'limit': 'u16'} | dict.fromkeys('length report header cue_field record operand reading read_operand'.split(), 'usize')
+NUMBERS = {'limit': 'u16'} | dict.fromkeys('length report run_result header cue_field record operand reading read_operand'.split(), 'usize')
 
 
 def parameter(text):

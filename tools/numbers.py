@@ -12,7 +12,7 @@ import bindings
 import operations as scripts
 
 ROOT = pathlib.Path(__file__).resolve().parent.parent
-OPERATIONS, REFUSALS, VERSIONS = 99, 21, 3
+OPERATIONS, REFUSALS, VERSIONS = 99, 23, 3
 failures = []
 
 
@@ -80,7 +80,8 @@ def source():
         report='foreign_report/src/lib', read='foreign/src/read', encode='foreign/src/encode', load='foreign/src/load', operands='x86/src/operands', reader='reader/src/lib',
         slots='read_slots/src/lib', run='encode_run/src/lib', lister='lister/src/lib', entries='list_entries/src/lib', form='text_form/src/lib', ground='encode_form/src/lib',
         text='show_text/src/lib', x86='x86/src/lib', evaluate='foreign/src/evaluate', sum='sum_evaluate/src/lib', answer='sum_text/src/lib',
-        program='fsqsum/src/main', cues='cue_compile/src/lib', cue='foreign/src/cue', compiler='fsqcue/src/main').items()}
+        program='fsqsum/src/main', cues='cue_compile/src/lib', cue='foreign/src/cue', compiler='fsqcue/src/main',
+        desk='desk_run/src/lib', result='foreign/src/run', desk_text='desk_text/src/lib', simulator='fsqrun/src/main').items()}
     sums = Text('crates/sum_spec/specs/Sums.antt')
     s = {}
 
@@ -105,7 +106,7 @@ def source():
             twice(enum, code['record'], {f'first unknown of {field}': known and int(''.join(known))}, {f'first unknown of {field}': count})
     twice('size', code['operands'], code['operands'].numbers(r'OperandSize::(\w+) => (\d+),', 3, snake), s['size'])
 
-    # Refusals: the encoder's, the loader's, the reader's, the evaluator's, the cue compiler's; then where they cross.
+    # Refusals: the encoder's, the loader's, the reader's, the evaluator's, the cue compiler's, the desk's; then where they cross.
     s['answer'] = {'DONE': 0}
     s['answer'] |= code['file'].numbers(r'EncodeError::(\w+)\([_, ]*\) => (\d+),', 10, snake)
     s['answer'] |= {'NOT_AN_INSTRUCTION': code['reader'].number(r'Decoded::Nothing => Refusal::Is\((\d+)\)'), 'NOT_COMPLETE': code['reader'].number(r'Decoded::More => Refusal::Is\((\d+)\)')}
@@ -119,6 +120,10 @@ def source():
     compiled = code['cues'].numbers(r'CueError::(\w+) => (\d+),', 3, lambda n: {'WrongLength': 'NOT_A_CUE_LIST', 'ImageTooShort': 'SLICE_TOO_SHORT'}.get(n, snake(n)))
     s['answer'] = compiled | s['answer']
     twice('refusal', code['cues'], compiled, {name: s['answer'].get(name) for name in compiled})
+    # So are the desk's, which the library and the text of fsqrun call.
+    ran = code['desk'].numbers(r'RunError::(\w+) => (\d+),', 3, lambda n: {'LogTooShort': 'SLICE_TOO_SHORT'}.get(n, snake(n)))
+    s['answer'] = ran | s['answer']
+    twice('refusal', code['desk'], ran, {name: s['answer'].get(name) for name in ran})
     if len(s['answer']) != REFUSALS + 1:
         wrong(f'the source has {len(s["answer"]) - 1} and not {REFUSALS} refusals')
     crossing = code['report'].numbers(r'EncodeError::(\w+)\(span\) => response_span\((\d+), span\)', 8, snake)
@@ -127,7 +132,9 @@ def source():
     crossing |= code['evaluate'].numbers(r'Answer::(\w+) => response_alone\((\d+)\),', 3, named)
     code['cue'].one(r'Compiled::Refused\(error\) => response_alone\(error\.number\(\)\)')
     code['compiler'].one(r'io::print_decimal\(STDERR_FILENO, error\.number\(\) as u64\)')
-    crossing = compiled | crossing
+    code['result'].one(r'Ran::Refused\(error\) => \{\s*write_result\(0, 0, out\);\s*error\.number\(\)')
+    code['desk_text'].one(r'push_decimal\(word, error\.number\(\) as usize\)')
+    crossing = compiled | ran | crossing
     crossing |= {'NOT_AN_INSTRUCTION': code['read'].number(r'Decoded::Nothing => (\d+),'), 'NOT_COMPLETE': code['read'].number(r'Decoded::More => (\d+),')}
     twice('refusal', Text('crates/foreign', ''), {'DONE': 0} | crossing, s['answer'])
     record = dict(zip(('UNKNOWN_CODE', 'WRONG_LENGTH'), map(int, code['encode'].part(r'pub fn record_number\(').one(r'\}\s*return (\d+);\s*\}\s*(\d+)$') or ())))
@@ -184,7 +191,15 @@ def source():
         'FILE_LENGTH': header + values['LONG_RECORD_LENGTH'] * most, 'FORM_LENGTH': code['form'].number(r'pub const MOST_LINE: usize = (\d+);')}
     s['length'] |= {'CUE_LENGTH': cues['CUE_LENGTH'], 'CUE_CODE_LENGTH': cues['CUE_CODE'], 'CUE_IMAGE_LENGTH': code['compiler'].number(r'let mut image = \[0; (\d+)\];')}
     twice('length', code['compiler'], {'CUE_IMAGE_LENGTH': s['length']['CUE_IMAGE_LENGTH']}, {'CUE_IMAGE_LENGTH': cues['CUE_CODE'] * cues['MOST_CUES'] + cues['HALT_CODE']})
+    # A run's result: two numbers of eight bytes; what a run reaches, and the log of fsqrun, with the text of a full one.
+    s['length'] |= {'RUN_RESULT_LENGTH': code['result'].number(r'if out\.len\(\) < (\d+) '), 'REACH_LENGTH': code['desk'].number(r'if size < (\d+) ')}
+    log = code['desk_text'].number(r'if (\d+) < room ')
+    each, last = map(int, code['desk_text'].one(r'if out\.len\(\) < (\d+) \* room \+ (\d+) ') or (0, 0))
+    twice('length', code['simulator'], {'text': code['simulator'].number(r'let mut out = \[0; (\d+)\];')}, {'text': each * log + last})
+    twice('length', code['simulator'], {'pairs': code['simulator'].number(r'The log holds (\d+) pairs')}, {'pairs': log // 2})
     twice('length', code['lister'], {'LIST_LENGTH': s['length']['LIST_LENGTH']}, {'LIST_LENGTH': entry * entries})
+    at, high = (code['result'].number(rf'put_{name}\(out, (\d+), ') for name in ('three', 'u32'))
+    s['run_result'] = {'RUN_COUNT_AT': at, 'RUN_LOG_LENGTH_AT': high - 4}
 
     # The report: three numbers of four bytes at a place.
     def threes(text, names):
@@ -338,6 +353,10 @@ def reference(s):
     count += compare('limit', place, {'MOST_DEPTH': text.number(r'\n\| Is it at most (\d+) brackets deep\? \|')}, {'MOST_DEPTH': s['limit']['MOST_DEPTH']})
     cues = text.one(r'\n\| Is the length a multiple of (\d+), and are there at most (\d+) cues\? \|') or (0, 0)
     count += compare('cues', place, dict(zip(('CUE_LENGTH', 'MOST_CUES'), map(int, cues))), {'CUE_LENGTH': s['length']['CUE_LENGTH'], 'MOST_CUES': s['limit']['MOST_CUES']})
+    runs = text.one(r'the first ([\d,]+) bytes of an image')
+    result = text.one(r'\*\*The result\*\*, (\d+) bytes, of `fsq_run`: at (\d+) .*? at (\d+) ') or (0, 0, 0)
+    given = {'REACH_LENGTH': said(runs or '0')} | dict(zip(('RUN_RESULT_LENGTH', 'RUN_COUNT_AT', 'RUN_LOG_LENGTH_AT'), map(int, result)))
+    count += compare('run', place, given, {name: (s['length'] | s['run_result'])[name] for name in given})
     for enum, begin, names in (('kind', r'\| kind: ', r'\b(Imm|Reg|Seg|Mem) (\d)'), ('size', 'displacement size: ', r'\b(Unspecified|Byte|Word) (\d)'),
             ('jump', r'\| jump kind: ', r'\b(none|Far|Near|Short) (\d)')):
         given = text.part(begin, r' \|').numbers(names, len(s[enum]), lambda n: 'NO_KIND' if n == 'none' else n.upper())

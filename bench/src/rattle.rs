@@ -64,3 +64,11 @@ pub fn evaluate(text: &[u8], report: &mut Report) -> Option<i32> {
     let number = unsafe { fsq_evaluate(text.as_ptr(), text.len(), report.as_mut_ptr(), report.len()) };
     (number == FSQ_DONE).then(|| i32::from_le_bytes(report[FSQ_REPORT_VALUE_AT..][..4].try_into().unwrap()))
 }
+
+/// The instructions that a run carries out, or 0 where it is refused; the pairs stand at the front of the log.
+#[inline]
+pub fn run(image: &[u8], budget: u32, log: &mut [u8]) -> u64 {
+    let mut result = [0; FSQ_RUN_RESULT_LENGTH];
+    unsafe { fsq_run(image.as_ptr(), image.len(), budget, log.as_mut_ptr(), log.len(), result.as_mut_ptr(), result.len()) };
+    u64::from_le_bytes(result[FSQ_RUN_COUNT_AT..][..8].try_into().unwrap())
+}

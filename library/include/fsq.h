@@ -5,12 +5,13 @@
  * This header has, in this order: the numbers and offsets; the functions of the library; and over them inline functions, which a program
  * needs no offsets for: operands (fsq_reg, fsq_mem, ..), records (fsq_none, fsq_one, fsq_two), records with a repeat (fsq_with_repeat), calls whose
  * answer is the length (fsq_encode_at, fsq_shortest_at, fsq_list_at, fsq_form_at, fsq_read_at, fsq_load_show, fsq_compile_cues), the value of a sum
- * (fsq_evaluate_text), fields, names, and the writing of a show file (fsq_write_show). library/examples/one.c, show.c and cues.c use them.
+ * (fsq_evaluate_text), a run on the desk (fsq_run_image), fields, names, and the writing of a show file (fsq_write_show). library/examples/one.c, show.c, cues.c
+ * and desk.c use them.
  *
  * The library's functions work on slices that the caller lends: an address and a length. For all of them:
  * - A slice of any length is safe. One of length 0 may have any address that is not null.
  * - No two slices of one call may overlap.
- * - Nothing is written behind what is said here, and on a refusal nothing but the report.
+ * - Nothing is written behind what is said here, and on a refusal nothing but the report, or the result of a run.
  * - Nothing is allocated, nothing is kept between calls, and several threads may call at once.
  * - The answer is FSQ_DONE or the refusal's number. Numbers of more than one byte are little-endian.
  */
@@ -22,7 +23,7 @@
 
 /* The version of this header. Another major one may take a name away, another minor one adds some or raises a limit. */
 #define FSQ_VERSION_MAJOR 2
-#define FSQ_VERSION_MINOR 6
+#define FSQ_VERSION_MINOR 7
 
 #ifdef __cplusplus
 extern "C" {
@@ -51,6 +52,8 @@ enum fsq_answer {
     FSQ_VALUE_OUT_OF_RANGE = 18,          /* A value on the way is outside -2,147,483,648 to 2,147,483,647, or a divisor is 0. */
     FSQ_NOT_A_CUE_LIST = 19,              /* The length is not a multiple of 4, or there are more than 200 cues. */
     FSQ_NO_DELAY = 20,                    /* A cue has a delay of 0. */
+    FSQ_NOT_CARRIED_OUT = 21,             /* The next bytes inside the image are no instruction, or one that a run does not carry out. */
+    FSQ_BUDGET_SPENT = 22,                /* The whole budget is carried out, and HLT was not met. */
     FSQ_INVALID_REPEAT = 23               /* The repeat is not 0, F2 or F3 (hexadecimal), or the operation is no string operation and has one. */
 };
 
@@ -64,6 +67,8 @@ enum fsq_length {
     FSQ_ENTRY_LENGTH = 8,           /* an entry of a list */
     FSQ_LIST_LENGTH = 96,           /* the longest list: twelve entries */
     FSQ_FORM_LENGTH = 64,           /* the line of a form: a slice of so many bytes takes every one */
+    FSQ_RUN_RESULT_LENGTH = 16,     /* the result of a run */
+    FSQ_REACH_LENGTH = 65536,       /* what a run reaches of an image: its later bytes are not looked at */
     FSQ_HEADER_LENGTH = 9,          /* what stands before the records of a show file */
     FSQ_OPERAND_LENGTH = 23,        /* an operand of a record */
     FSQ_IMAGE_LENGTH = 56000,       /* the longest image: a slice of so many bytes takes every one */
@@ -101,6 +106,12 @@ enum fsq_report {
     FSQ_TOLD_LENGTH_AT = FSQ_REPORT_LENGTH_AT, FSQ_TOLD_SPAN_START_AT = FSQ_REPORT_SPAN_START_AT, FSQ_TOLD_SPAN_END_AT = FSQ_REPORT_SPAN_END_AT,
     FSQ_TOLD_VALUE_AT = FSQ_REPORT_VALUE_AT, FSQ_TOLD_LOW_AT = FSQ_REPORT_LOW_AT, FSQ_TOLD_HIGH_AT = FSQ_REPORT_HIGH_AT,
     FSQ_TOLD_RECORD_AT = FSQ_REPORT_RECORD_AT
+};
+
+/* Where the fields of a run's result stand. Both are 0 where the run is refused. */
+enum fsq_run_result {
+    FSQ_RUN_COUNT_AT = 0,           /* u64: the instructions carried out, HLT among them */
+    FSQ_RUN_LOG_LENGTH_AT = 8       /* u64: the bytes of the log's pairs, two a pair */
 };
 
 /* Where the fields of a show file's header stand. Record k, from 0, stands at 9 + 56 * k, in version 3 at 9 + 57 * k. */
@@ -309,10 +320,23 @@ uint8_t fsq_evaluate(const uint8_t *text, size_t text_len, uint8_t *report, size
  */
 uint8_t fsq_cue(const uint8_t *cues, size_t cues_len, uint8_t *image, size_t image_len, uint8_t *report, size_t report_len);
 
+/* Runs an image on the desk, from offset 0 on, with all registers 0: the instructions at the offset, one by one, as the 8086 carries them out. Those are
+ * MOV of an immediate to a register (B0 to BF, and C6 and C7 where the ModRM byte names a register), LOOP (E2), JMP (E9, EB), OUT of AL to an immediate
+ * port (E6) and HLT (F4). Between two instructions the offset wraps at 65,536; an instruction lies whole inside the image.
+ *   image, image_len     the image; of a longer one the first 65,536 bytes
+ *   budget               how many instructions are carried out at most, HLT among them. An image of fsq_cue halts on the last one of the sum of (delay + 3),
+ *                        plus 1
+ *   log, log_len         gets, where the run halts, a pair for each OUT from its front, its port and AL; its later bytes stay. On a refusal all of them stay
+ *   out, out_len         gets the result where it has 16 bytes, else stays as it is: the instructions carried out and the length of the pairs, or zeros
+ *   answers              FSQ_DONE; else, asked before each instruction and in this order, FSQ_BUDGET_SPENT where the budget is carried out,
+ *                        FSQ_NOT_CARRIED_OUT where no such instruction is next, FSQ_SLICE_TOO_SHORT where it is OUT and no two bytes of the log are left
+ */
+uint8_t fsq_run(const uint8_t *image, size_t image_len, uint32_t budget, uint8_t *log, size_t log_len, uint8_t *out, size_t out_len);
+
 /* The inline functions.
  *
  * They stand over the library's functions and are compiled with the program that includes this header. They allocate nothing and keep nothing.
- * Where one answers an int, it is a length or a count, 0 or more, or a refusal's number made negative, -1 to -20 or -23:
+ * Where one answers an int, it is a length or a count, 0 or more, or a refusal's number made negative, -1 to -23:
  *
  *     int length = fsq_encode_at(&record, offset, out, sizeof out, &report);
  *     if (length < 0)
@@ -321,10 +345,10 @@ uint8_t fsq_cue(const uint8_t *cues, size_t cues_len, uint8_t *image, size_t ima
  * - A pointer that is null is an empty slice, whatever length comes with it, and a slice of length 0 may have any address.
  * - No two of the slices, records, lists, readings and reports of one call may overlap.
  * - A report may be null where it is not wanted.
- * - The value of a sum may be negative: fsq_evaluate_text answers 0 and has the value beside it.
+ * - The value of a sum may be negative: fsq_evaluate_text answers 0 and has the value beside it. So does fsq_run_image, whose log may be longer than an int.
  */
 
-/* An operand, a record, a report, a read instruction, a list and a cue: their bytes, as the offsets above name them. A report cannot be too short, and a
+/* An operand, a record, a report, a read instruction, a list, a cue and a run's result: their bytes, as the offsets above name them. A report cannot be too short, and a
  * list has the number of its entries beside them. A line is a string of C. A record with a repeat is a type of its own, so that it cannot be taken
  * for one without. */
 typedef struct fsq_operand_t { uint8_t bytes[FSQ_OPERAND_LENGTH]; } fsq_operand_t;
@@ -335,6 +359,7 @@ typedef struct fsq_reading_t { uint8_t bytes[FSQ_READING_LENGTH]; } fsq_reading_
 typedef struct fsq_list_t { uint8_t bytes[FSQ_LIST_LENGTH], count; } fsq_list_t;
 typedef struct fsq_line_t { char text[FSQ_FORM_LENGTH]; } fsq_line_t;
 typedef struct fsq_cue_t { uint8_t bytes[FSQ_CUE_LENGTH]; } fsq_cue_t;
+typedef struct fsq_run_result_t { uint8_t bytes[FSQ_RUN_RESULT_LENGTH]; } fsq_run_result_t;
 
 /* The little-endian number at an address, of two bytes, of four, and of four with a sign. */
 static inline uint16_t fsq_get_u16(const uint8_t *at) {
@@ -348,6 +373,11 @@ static inline uint32_t fsq_get_u32(const uint8_t *at) {
 static inline int32_t fsq_get_i32(const uint8_t *at) {
     uint32_t n = fsq_get_u32(at);
     return n < 2147483648u ? (int32_t) n : (int32_t) (n - 2147483648u) - 2147483647 - 1;
+}
+
+/* The same of eight bytes. */
+static inline uint64_t fsq_get_u64(const uint8_t *at) {
+    return (uint64_t) fsq_get_u32(at) | (uint64_t) fsq_get_u32(at + 4) << 32;
 }
 
 /* Writes a little-endian number at an address, of two bytes and of four; one with a sign is cast to uint32_t. */
@@ -795,6 +825,38 @@ static inline int fsq_compile_cues(const fsq_cue_t *cues, size_t count, uint8_t 
     return fsq_compile_bytes(cues != NULL ? cues->bytes : NULL, FSQ_CUE_LENGTH * count, image, image_len);
 }
 
+/* Runs an image on the desk: fsq_run.
+ *   image, image_len   the image
+ *   budget             how many instructions are carried out at most
+ *   log, log_len       gets, where the run halts, port and AL of each OUT at its front; its later bytes stay, and on a refusal all of them
+ *   result             gets the result, or is null
+ *   answers            0, or a refusal's number made negative: -22, -21 or -9
+ */
+static inline int fsq_run_image(const uint8_t *image, size_t image_len, uint32_t budget, uint8_t *log, size_t log_len, fsq_run_result_t *result) {
+    fsq_run_result_t own;
+    if (result == NULL)
+        result = &own;
+    if (image == NULL) {
+        image = result->bytes;
+        image_len = 0;
+    }
+    if (log == NULL) {
+        log = result->bytes;
+        log_len = 0;
+    }
+    return -(int) fsq_run(image, image_len, budget, log, log_len, result->bytes, FSQ_RUN_RESULT_LENGTH);
+}
+
+/* The instructions that a run carried out, HLT among them, or 0 where it is refused. */
+static inline uint64_t fsq_run_count(const fsq_run_result_t *result) {
+    return fsq_get_u64(result->bytes + FSQ_RUN_COUNT_AT);
+}
+
+/* The bytes of its log, two for each OUT: the port, then AL; 0 where it is refused. */
+static inline uint64_t fsq_run_log_length(const fsq_run_result_t *result) {
+    return fsq_get_u64(result->bytes + FSQ_RUN_LOG_LENGTH_AT);
+}
+
 /* The fields of a report. One that the answer does not give is 0, and the record FSQ_NO_RECORD. */
 
 /* The length or count that the function answers. */
@@ -920,21 +982,22 @@ static inline uint16_t fsq_reading_far_segment(const fsq_reading_t *reading, uns
 
 /* Names. */
 
-/* Where the two lists below have an answer: by its number up to 20, then 23, then all that there is not. */
+/* Where the two lists below have an answer: by its number up to 23, then all that there is not. */
 static inline unsigned fsq_refusal_place(int answer) {
-    return answer >= 0 ? 0 : answer >= -FSQ_NO_DELAY ? (unsigned) -answer : FSQ_NO_DELAY + (answer == -FSQ_INVALID_REPEAT ? 1u : 2u);
+    return answer >= 0 ? 0 : answer >= -FSQ_INVALID_REPEAT ? (unsigned) -answer : FSQ_INVALID_REPEAT + 1u;
 }
 
 /* The name of a refusal, as enum fsq_answer has it without FSQ_.
  *   answer    what an inline function answers; what one of the library's answers is to be made negative
- *   answers   the name; "DONE" of 0 and every length, "UNKNOWN" of -21, -22 and below -23
+ *   answers   the name; "DONE" of 0 and every length, "UNKNOWN" below -23
  */
 static inline const char *fsq_refusal_name(int answer) {
     static const char *const names[] = {
         "DONE", "INVALID_OPERANDS", "OPERAND_SIZE_NOT_SPECIFIED", "OPERAND_SIZES_DO_NOT_MATCH", "INVALID_OPERAND_SIZE",
         "IMMEDIATE_OUT_OF_RANGE", "RELATIVE_JUMP_OUT_OF_RANGE", "NOT_SUPPORTED", "NOT_WELL_FORMED", "SLICE_TOO_SHORT",
         "NOT_AN_INSTRUCTION", "NOT_COMPLETE", "NO_MARK", "WRONG_VERSION", "WRONG_LENGTH", "UNKNOWN_CODE",
-        "NOT_A_SUM", "TOO_DEEP", "VALUE_OUT_OF_RANGE", "NOT_A_CUE_LIST", "NO_DELAY", "INVALID_REPEAT", "UNKNOWN"
+        "NOT_A_SUM", "TOO_DEEP", "VALUE_OUT_OF_RANGE", "NOT_A_CUE_LIST", "NO_DELAY", "NOT_CARRIED_OUT", "BUDGET_SPENT",
+        "INVALID_REPEAT", "UNKNOWN"
     };
     return names[fsq_refusal_place(answer)];
 }
@@ -966,6 +1029,8 @@ static inline const char *fsq_refusal_sentence(int answer) {
         "A value on the way is outside -2147483648 to 2147483647, or a divisor is 0.",
         "The length is not a multiple of 4, or there are more than 200 cues.",
         "A cue has a delay of 0.",
+        "The next bytes inside the image are no instruction that a run carries out.",
+        "The whole budget is carried out, and HLT was not met.",
         "The repeat is neither REP nor REPNE, or the operation takes none.",
         "This header does not know the refusal."
     };

@@ -11,6 +11,7 @@ extern __typeof__(fsq_read) right_read;
 extern __typeof__(fsq_load) right_load;
 extern __typeof__(fsq_evaluate) right_evaluate;
 extern __typeof__(fsq_cue) right_cue;
+extern __typeof__(fsq_run) right_run;
 
 static int fault(const char *name) {
     const char *named = getenv("FSQ_FAULT");
@@ -408,5 +409,91 @@ uint8_t fsq_cue(const uint8_t *cues, size_t n, uint8_t *image, size_t m, uint8_t
         memset(report + FSQ_REPORT_LENGTH_AT + 1, 0, 3);
     if (fault("cue-into-27-bytes") && k == FSQ_REPORT_LENGTH - 1)
         memset(report, 0, 4);
+uint8_t fsq_run(const uint8_t *image, size_t n, uint32_t budget, uint8_t *log, size_t m, uint8_t *out, size_t k) {
+    uint8_t answer, further, own[FSQ_RUN_RESULT_LENGTH];
+    int told = k >= FSQ_RUN_RESULT_LENGTH;
+    uint64_t count, length;
+    if (fault("run-log-before-a-refusal") && m > 1)
+        log[0] = 0x10;
+    if (fault("run-image-written") && n > 0)
+        ((volatile uint8_t *) image)[0] = image[0];
+    if (fault("run-result-into-15-bytes") && k == FSQ_RUN_RESULT_LENGTH - 1)
+        out[0] = 0;
+    // the next answer of the order, asked too early
+    if (fault("run-21-before-22") && budget != 4294967295u && right_run(image, n, budget + 1, (uint8_t[1]) {0}, 0, own, 0) == FSQ_NOT_CARRIED_OUT)
+        budget++;
+    if (fault("run-9-before-22") && budget != 4294967295u && right_run(image, n, budget, log, m, own, 0) == FSQ_BUDGET_SPENT
+        && right_run(image, n, budget + 1, log, m, own, 0) == FSQ_SLICE_TOO_SHORT)
+        budget++;
+    if (fault("run-one-step-past-the-budget") && budget != 4294967295u)
+        budget++;
+    if (fault("run-one-step-fewer") && budget != 0)
+        budget--;
+    if (fault("run-budget-in-16-bits"))
+        budget &= 65535u;
+    if (fault("run-budget-with-a-sign") && budget > 2147483647u)
+        budget = 0;
+    if (fault("run-room-for-one-more") && m > 1)
+        m -= 2;
+    if (fault("run-65535-bytes") && n > 65535)
+        n = 65535;
+    if (fault("run-longer-image-as-none") && n > 65536)
+        n = 0;
+    answer = right_run(image, n, budget, log, m, out, k);
+    if (fault("run-9-before-21") && answer == FSQ_NOT_CARRIED_OUT && m < 2)
+        answer = FSQ_SLICE_TOO_SHORT;
+    if (fault("run-21-for-22") && answer == FSQ_BUDGET_SPENT)
+        answer = FSQ_NOT_CARRIED_OUT;
+    if (fault("run-22-for-21") && answer == FSQ_NOT_CARRIED_OUT)
+        answer = FSQ_BUDGET_SPENT;
+    if (fault("run-9-as-22") && answer == FSQ_SLICE_TOO_SHORT)
+        answer = FSQ_BUDGET_SPENT;
+    if (fault("run-c6-refused") && n > 2 && image[0] == 0xC6)
+        answer = FSQ_NOT_CARRIED_OUT;
+    if (fault("run-e7-taken") && answer == FSQ_NOT_CARRIED_OUT && n > 1 && image[0] == 0xE7)
+        answer = FSQ_DONE;
+    if (answer != FSQ_DONE) {
+        if (fault("run-count-beside-a-refusal") && told)
+            out[FSQ_RUN_COUNT_AT] = 1;
+        if (fault("run-result-left-on-a-refusal") && told)
+            memset(out, 0xA5, FSQ_RUN_RESULT_LENGTH);
+        return answer;
+    }
+    further = right_run(image, n, budget, (uint8_t[1]) {0}, 0, own, sizeof own);
+    if (!told)
+        return answer;
+    count = fsq_get_u64(out + FSQ_RUN_COUNT_AT);
+    length = fsq_get_u64(out + FSQ_RUN_LOG_LENGTH_AT);
+    if (fault("run-hlt-not-counted"))
+        count--;
+    if (fault("run-count-in-16-bits"))
+        count &= 65535u;
+    if (fault("run-budget-as-count"))
+        count = budget;
+    if (fault("run-length-in-pairs"))
+        length /= 2;
+    if (fault("run-last-pair-lost") && length != 0)
+        length -= 2;
+    if (fault("run-pair-exchanged") && length != 0) {
+        uint8_t port = log[0];
+        log[0] = log[1];
+        log[1] = port;
+    }
+    if (fault("run-first-pair-again") && length > 2)
+        memcpy(log + 2, log, 2);
+    if (fault("run-byte-behind-the-pairs") && m > length)
+        log[length] ^= 1;
+    if (fault("run-byte-behind-the-log") && further == FSQ_SLICE_TOO_SHORT)
+        ((volatile uint8_t *) log)[m] = log[m];
+    if (fault("run-byte-behind-the-result") && k > FSQ_RUN_RESULT_LENGTH)
+        out[FSQ_RUN_RESULT_LENGTH] = 0;
+    fsq_put_u32(out + FSQ_RUN_COUNT_AT, (uint32_t) count);
+    fsq_put_u32(out + FSQ_RUN_LOG_LENGTH_AT, (uint32_t) length);
+    if (fault("run-result-exchanged")) {
+        fsq_put_u32(out + FSQ_RUN_COUNT_AT, (uint32_t) length);
+        fsq_put_u32(out + FSQ_RUN_LOG_LENGTH_AT, (uint32_t) count);
+    }
+    if (fault("run-result-of-four-bytes"))
+        out[FSQ_RUN_COUNT_AT + 4] = 1;
     return answer;
 }

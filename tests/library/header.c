@@ -1213,6 +1213,178 @@ static void cues(void) {
     CHECK(fsq_compile_cues(sheet, ((size_t) -1) / 4 + 2, out, sizeof out) == -FSQ_NOT_A_CUE_LIST);
 }
 
+/* The bytes of a text in hexadecimal, with blanks or without; their number. */
+static size_t bytes_of(const char *text, uint8_t *bytes) {
+    static const char digits[] = "0123456789ABCDEF";
+    size_t n = 0;
+    for (; *text != 0; text++)
+        if (*text != ' ') {
+            unsigned digit = (unsigned) (strchr(digits, *text) - digits);
+            bytes[n / 2] = (uint8_t) (n % 2 == 0 ? digit * 16u : bytes[n / 2] + digit);
+            n++;
+        }
+    return n / 2;
+}
+
+enum { REACH = 65536 };
+
+/* A run by the inline function and by the library's: the answer, the instructions carried out and the pairs of the log. The log behind them stays, all of it on a
+ * refusal; a result of 15 bytes stays, and the byte behind one of 16. */
+static void ran(const uint8_t *image, size_t image_len, uint32_t budget, size_t log_len, int answer, uint64_t count, const char *pairs, int line) {
+    uint8_t log[32], again[32], expected[32], out[FSQ_RUN_RESULT_LENGTH + 1], untouched[FSQ_RUN_RESULT_LENGTH + 1];
+    fsq_run_result_t result;
+    size_t length;
+    memset(log, 0xA5, sizeof log);
+    memset(again, 0xA5, sizeof again);
+    memset(expected, 0xA5, sizeof expected);
+    memset(out, 0xA5, sizeof out);
+    memset(untouched, 0xA5, sizeof untouched);
+    memset(&result, 0xA5, sizeof result);
+    length = bytes_of(pairs, expected);
+    check(fsq_run_image(image, image_len, budget, log, log_len, &result) == answer && memcmp(log, expected, sizeof log) == 0, pairs, line);
+    check(fsq_run_count(&result) == count && fsq_run_log_length(&result) == length, "count and length", line);
+    check(fsq_run(image, image_len, budget, again, log_len, out, FSQ_RUN_RESULT_LENGTH - 1) == -answer && memcmp(out, untouched, sizeof out) == 0
+          && memcmp(again, expected, sizeof again) == 0, "a result of 15 bytes", line);
+    memset(again, 0xA5, sizeof again);
+    check(fsq_run(image, image_len, budget, again, log_len, out, sizeof out) == -answer && memcmp(out, result.bytes, FSQ_RUN_RESULT_LENGTH) == 0
+          && out[FSQ_RUN_RESULT_LENGTH] == 0xA5 && memcmp(again, expected, sizeof again) == 0, "a result of 17 bytes", line);
+    memset(again, 0xA5, sizeof again);
+    check(fsq_run_image(image, image_len, budget, again, log_len, NULL) == answer && memcmp(again, expected, sizeof again) == 0, "without a result", line);
+}
+
+/* It halts, with a log of a byte more than its pairs, and with a greater budget; with one instruction less the budget is spent. */
+static void halts(const char *text, uint32_t count, const char *pairs, int line) {
+    uint8_t image[32], log[32];
+    size_t length = bytes_of(text, image), log_len = bytes_of(pairs, log);
+    ran(image, length, count, log_len, 0, count, pairs, line);
+    ran(image, length, 4294967295u, log_len + 1, 0, count, pairs, line);
+    ran(image, length, count - 1, log_len, -FSQ_BUDGET_SPENT, 0, "", line);
+}
+
+static void does_not_halt(const char *text, uint32_t budget, size_t log_len, int number, int line) {
+    uint8_t image[32];
+    ran(image, bytes_of(text, image), budget, log_len, -number, 0, "", line);
+}
+
+/* An image of 65,536 bytes, zeros but for its front and its end. */
+static const uint8_t *whole_image(const char *front, const char *end) {
+    static uint8_t image[REACH];
+    uint8_t bytes[16];
+    size_t length;
+    memset(image, 0, sizeof image);
+    length = bytes_of(front, bytes);
+    memcpy(image, bytes, length);
+    length = bytes_of(end, bytes);
+    memcpy(image + REACH - length, bytes, length);
+    return image;
+}
+
+#define HALTS(image, count, pairs) halts((image), (count), (pairs), __LINE__)
+#define RUN_REFUSED(image, budget, log_len, number) does_not_halt((image), (budget), (log_len), (number), __LINE__)
+
+/* REFERENCE 15: the steps of the manual, and the orders of document 02, No. 10. */
+static void runs(void) {
+    static uint8_t image[REACH + 8], log[400], expected[400];
+    fsq_run_result_t result;
+    size_t i;
+    int n;
+    HALTS("F4", 1, "");
+    HALTS("B007 E601 F4", 3, "01 07");
+    HALTS("C6C007 E601 F4", 3, "01 07");
+    HALTS("B83412 E602 F4", 3, "02 34");
+    HALTS("C7C03412 E602 F4", 3, "02 34");
+    /* AH is byte register 4, and not SP, which is word register 4. */
+    HALTS("B034 B412 E602 F4", 4, "02 34");
+    HALTS("B83412 B456 E602 F4", 4, "02 34");
+    HALTS("BC3412 E602 F4", 3, "02 00");
+    HALTS("B501 B101 E2FE F4", 260, "");
+    HALTS("B001 E610 B002 E620 E630 F4", 6, "10 01 20 02 30 02");
+    HALTS("B90100 E2FE F4", 3, "");
+    HALTS("B90200 E2FE F4", 4, "");
+    HALTS("E2FE F4", 65537, "");
+    HALTS("B90300 E605 E2FC F4", 8, "05 00 05 00 05 00");
+    HALTS("E90100 90 F4", 2, "");
+    HALTS("EB01 90 F4", 2, "");
+    HALTS("EB03 F4 9090 EBFB", 3, "");
+    /* 22 before 21, 21 before 9. */
+    RUN_REFUSED("", 0, 0, FSQ_BUDGET_SPENT);
+    RUN_REFUSED("90", 0, 0, FSQ_BUDGET_SPENT);
+    RUN_REFUSED("E610", 0, 0, FSQ_BUDGET_SPENT);
+    RUN_REFUSED("B007 90", 1, 0, FSQ_BUDGET_SPENT);
+    RUN_REFUSED("E2FE F4", 65536, 0, FSQ_BUDGET_SPENT);
+    RUN_REFUSED("B007 90", 2, 0, FSQ_NOT_CARRIED_OUT);
+    RUN_REFUSED("", 1, 0, FSQ_NOT_CARRIED_OUT);
+    RUN_REFUSED("B0", 9, 0, FSQ_NOT_CARRIED_OUT);
+    RUN_REFUSED("C6C0", 9, 0, FSQ_NOT_CARRIED_OUT);
+    RUN_REFUSED("E610 90", 2, 2, FSQ_NOT_CARRIED_OUT);
+    RUN_REFUSED("E610 E7", 9, 2, FSQ_NOT_CARRIED_OUT);
+    RUN_REFUSED("E710 F4", 9, 2, FSQ_NOT_CARRIED_OUT);
+    RUN_REFUSED("EE F4", 9, 2, FSQ_NOT_CARRIED_OUT);
+    RUN_REFUSED("E000 F4", 9, 2, FSQ_NOT_CARRIED_OUT);
+    RUN_REFUSED("E300 F4", 9, 2, FSQ_NOT_CARRIED_OUT);
+    RUN_REFUSED("E80000 F4", 9, 2, FSQ_NOT_CARRIED_OUT);
+    RUN_REFUSED("EA05000000 F4", 9, 2, FSQ_NOT_CARRIED_OUT);
+    RUN_REFUSED("C606000007 F4", 9, 2, FSQ_NOT_CARRIED_OUT);
+    RUN_REFUSED("E610 F4", 1, 1, FSQ_SLICE_TOO_SHORT);
+    RUN_REFUSED("E610 E611 F4", 9, 2, FSQ_SLICE_TOO_SHORT);
+    RUN_REFUSED("E610 E611 F4", 9, 3, FSQ_SLICE_TOO_SHORT);
+    /* Of the images of one first byte and zeros these are carried out, and HLT. */
+    for (n = 0; n < 256; n++) {
+        int known = (n >= 0xB0 && n <= 0xBF) || n == 0xE2 || n == 0xE6 || n == 0xE9 || n == 0xEB;
+        memset(image, 0, 8);
+        image[0] = (uint8_t) n;
+        CHECK(fsq_run_image(image, 8, 1, log, 2, NULL) == (n == 0xF4 ? 0 : known ? -FSQ_BUDGET_SPENT : -FSQ_NOT_CARRIED_OUT));
+        image[0] = 0xC6;
+        image[1] = (uint8_t) n;
+        CHECK(fsq_run_image(image, 8, 1, NULL, 0, NULL) == (n >> 3 == 0x18 ? -FSQ_BUDGET_SPENT : -FSQ_NOT_CARRIED_OUT));
+        image[0] = 0xC7;
+        CHECK(fsq_run_image(image, 8, 1, NULL, 0, NULL) == (n >> 3 == 0x18 ? -FSQ_BUDGET_SPENT : -FSQ_NOT_CARRIED_OUT));
+    }
+
+    /* The offset wraps at 65,536 between two instructions, and no instruction does; later bytes are not looked at. */
+    ran(whole_image("E9FAFF F4", "E90300"), REACH, 9, 0, 0, 3, "", __LINE__);
+    ran(whole_image("E610 EBFA", "B007"), REACH, 3, 2, -FSQ_BUDGET_SPENT, 0, "", __LINE__);
+    ran(whole_image("E610 EBFA", "B007"), REACH, 9, 2, -FSQ_SLICE_TOO_SHORT, 0, "", __LINE__);
+    ran(whole_image("B90200 E2FA F4", "F4"), REACH, 9, 0, 0, 3, "", __LINE__);
+    ran(whole_image("E9FCFF", "F4"), REACH, 9, 0, 0, 2, "", __LINE__);
+    /* JMP to FFF6, JMP to FFFF, where B0 stands; behind its immediate the offset would be 1, where HLT stands. */
+    ran(whole_image("EBF4", "EB0700000000000000B0"), REACH, 9, 0, -FSQ_NOT_CARRIED_OUT, 0, "", __LINE__);
+    memset(image, 0xF4, sizeof image);
+    memcpy(image, whole_image("EBF4", "EB0700000000000000B0"), REACH);
+    ran(image, sizeof image, 9, 0, -FSQ_NOT_CARRIED_OUT, 0, "", __LINE__);
+    memcpy(image, whole_image("B007 E610 F4", ""), REACH);
+    ran(image, sizeof image, 9, 2, 0, 3, "10 07", __LINE__);
+
+    /* What a designer may rely on: 200 cues of the longest delay halt on the last of 200 * (65,535 + 3) + 1 steps. */
+    for (i = 0; i < 200; i++) {
+        static const uint8_t cue[] = {0xB9, 0xFF, 0xFF, 0xE2, 0xFE, 0xB0, 0, 0xE6, 0};
+        memcpy(image + 9 * i, cue, sizeof cue);
+        expected[2 * i] = image[9 * i + 8] = (uint8_t) i;
+        expected[2 * i + 1] = image[9 * i + 6] = (uint8_t) (255 - i);
+    }
+    image[1800] = 0xF4;
+    CHECK(fsq_run_image(image, 1801, 13107601, log, 400, &result) == 0 && fsq_run_count(&result) == 13107601 && fsq_run_log_length(&result) == 400);
+    CHECK(memcmp(log, expected, sizeof log) == 0);
+    memset(log, 0xA5, sizeof log);
+    CHECK(fsq_run_image(image, 1801, 13107600, log, 400, &result) == -FSQ_BUDGET_SPENT && fsq_run_count(&result) == 0 && fsq_run_log_length(&result) == 0);
+    CHECK(fsq_run_image(image, 1801, 13107601, log, 399, &result) == -FSQ_SLICE_TOO_SHORT && fsq_run_count(&result) == 0);
+    for (i = 0; i < sizeof log; i++)
+        CHECK(log[i] == 0xA5);
+
+    /* A null image is an empty one, a null log has no room, whatever length comes with them. */
+    CHECK(fsq_run_image(NULL, 0, 0, NULL, 0, NULL) == -FSQ_BUDGET_SPENT && fsq_run_image(NULL, 9, 1, NULL, 9, NULL) == -FSQ_NOT_CARRIED_OUT);
+    bytes_of("E610 F4", image);
+    CHECK(fsq_run_image(image, 3, 9, NULL, 2, &result) == -FSQ_SLICE_TOO_SHORT && fsq_run_image(image, 3, 9, NULL, 0, NULL) == -FSQ_SLICE_TOO_SHORT);
+    bytes_of("F4", image);
+    CHECK(fsq_run_image(image, 1, 9, NULL, 2, &result) == 0 && fsq_run_count(&result) == 1 && fsq_run_log_length(&result) == 0);
+    /* A log of more than 2^32 bytes. */
+    bytes_of("FF FF FF FF 00 00 00 00 FC FF FF FF 01 00 00 00", result.bytes);
+    CHECK(fsq_run_count(&result) == 4294967295u && fsq_run_log_length(&result) == (uint64_t) 4294967294u * 2u);
+    bytes_of("01 02 03 04 05 06 07 88", image);
+    CHECK(fsq_get_u64(image) == ((uint64_t) 0x88070605u << 32 | 0x04030201u));
+    CHECK(FSQ_NOT_CARRIED_OUT == 21 && FSQ_BUDGET_SPENT == 22 && FSQ_RUN_RESULT_LENGTH == 16 && sizeof(fsq_run_result_t) == 16 && FSQ_REACH_LENGTH == 65536);
+}
+
 /* The names of REFERENCE 11, by the enumerators of the header, and its comments as sentences. */
 #define REFUSAL(name) CHECK(strcmp(fsq_refusal_name(-FSQ_##name), #name) == 0)
 /* operations.h, which tests/library/compilers writes, has OPERATION(name) for each of tools/operations.py. */
@@ -1241,26 +1413,28 @@ static void names(void) {
         "The sum is more than 16 brackets deep.",
         "A value on the way is outside -2147483648 to 2147483647, or a divisor is 0.",
         "The length is not a multiple of 4, or there are more than 200 cues.",
-        "A cue has a delay of 0."
+        "A cue has a delay of 0.",
+        "The next bytes inside the image are no instruction that a run carries out.",
+        "The whole budget is carried out, and HLT was not met.",
+        "The repeat is neither REP nor REPNE, or the operation takes none."
     };
     int number = 0, i;
     REFUSAL(DONE); REFUSAL(INVALID_OPERANDS); REFUSAL(OPERAND_SIZE_NOT_SPECIFIED); REFUSAL(OPERAND_SIZES_DO_NOT_MATCH);
     REFUSAL(INVALID_OPERAND_SIZE); REFUSAL(IMMEDIATE_OUT_OF_RANGE); REFUSAL(RELATIVE_JUMP_OUT_OF_RANGE); REFUSAL(NOT_SUPPORTED);
     REFUSAL(NOT_WELL_FORMED); REFUSAL(SLICE_TOO_SHORT); REFUSAL(NOT_AN_INSTRUCTION); REFUSAL(NOT_COMPLETE); REFUSAL(NO_MARK);
     REFUSAL(WRONG_VERSION); REFUSAL(WRONG_LENGTH); REFUSAL(UNKNOWN_CODE); REFUSAL(NOT_A_SUM); REFUSAL(TOO_DEEP); REFUSAL(VALUE_OUT_OF_RANGE);
-    REFUSAL(NOT_A_CUE_LIST); REFUSAL(NO_DELAY); REFUSAL(INVALID_REPEAT);
+    REFUSAL(NOT_A_CUE_LIST); REFUSAL(NO_DELAY); REFUSAL(NOT_CARRIED_OUT); REFUSAL(BUDGET_SPENT); REFUSAL(INVALID_REPEAT);
     CHECK(strcmp(fsq_refusal_name(7), "DONE") == 0 && strcmp(fsq_refusal_name(56000), "DONE") == 0);
     CHECK(FSQ_NOT_A_SUM == 16 && FSQ_TOO_DEEP == 17 && FSQ_VALUE_OUT_OF_RANGE == 18 && FSQ_NOT_A_CUE_LIST == 19 && FSQ_NO_DELAY == 20);
-    for (i = 0; i <= 20; i++)
+    for (i = 0; i <= 23; i++)
         CHECK(strcmp(fsq_refusal_sentence(-i), sentences[i]) == 0);
-    CHECK(strcmp(fsq_refusal_sentence(-23), "The repeat is neither REP nor REPNE, or the operation takes none.") == 0);
-    /* 21 and 22 are no refusals of this library, and nothing is above 23. */
-    for (i = 21; i <= 260; i++) {
-        CHECK((strcmp(fsq_refusal_name(-i), "UNKNOWN") == 0) == (i != 23));
-        CHECK((strcmp(fsq_refusal_sentence(-i), "This header does not know the refusal.") == 0) == (i != 23));
+    /* Nothing is above 23. */
+    for (i = 24; i <= 260; i++) {
+        CHECK(strcmp(fsq_refusal_name(-i), "UNKNOWN") == 0);
+        CHECK(strcmp(fsq_refusal_sentence(-i), "This header does not know the refusal.") == 0);
     }
     CHECK(strcmp(fsq_refusal_name(-2147483647 - 1), "UNKNOWN") == 0);
-    CHECK(fsq_refusal_sentence(7) == fsq_refusal_sentence(0) && fsq_refusal_sentence(-2147483647 - 1) == fsq_refusal_sentence(-21));
+    CHECK(fsq_refusal_sentence(7) == fsq_refusal_sentence(0) && fsq_refusal_sentence(-2147483647 - 1) == fsq_refusal_sentence(-24));
 #include "operations.h"
     CHECK(number == 99);
     for (i = LEAST; i <= OPERATIONS; i++)
@@ -1283,6 +1457,7 @@ int main(void) {
     long_repeat_shows();
     sums();
     cues();
+    runs();
     names();
     printf("header: %d checks, %d failed\n", checks, failures);
     return failures != 0;

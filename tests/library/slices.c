@@ -87,6 +87,7 @@ uint8_t __real_fsq_read(const uint8_t *, size_t, uint16_t, uint8_t *, size_t);
 uint8_t __real_fsq_load(const uint8_t *, size_t, uint8_t *, size_t, uint8_t *, size_t);
 uint8_t __real_fsq_evaluate(const uint8_t *, size_t, uint8_t *, size_t);
 uint8_t __real_fsq_cue(const uint8_t *, size_t, uint8_t *, size_t, uint8_t *, size_t);
+uint8_t __real_fsq_run(const uint8_t *, size_t, uint32_t, uint8_t *, size_t, uint8_t *, size_t);
 uint8_t __wrap_fsq_encode(const uint8_t *, size_t, uint16_t, uint8_t *, size_t, uint8_t *, size_t);
 uint8_t __wrap_fsq_shortest(const uint8_t *, size_t, uint16_t, uint8_t *, size_t, uint8_t *, size_t);
 uint8_t __wrap_fsq_list(const uint8_t *, size_t, uint16_t, uint8_t *, size_t, uint8_t *, size_t);
@@ -95,6 +96,7 @@ uint8_t __wrap_fsq_read(const uint8_t *, size_t, uint16_t, uint8_t *, size_t);
 uint8_t __wrap_fsq_load(const uint8_t *, size_t, uint8_t *, size_t, uint8_t *, size_t);
 uint8_t __wrap_fsq_evaluate(const uint8_t *, size_t, uint8_t *, size_t);
 uint8_t __wrap_fsq_cue(const uint8_t *, size_t, uint8_t *, size_t, uint8_t *, size_t);
+uint8_t __wrap_fsq_run(const uint8_t *, size_t, uint32_t, uint8_t *, size_t, uint8_t *, size_t);
 
 uint8_t __wrap_fsq_encode(const uint8_t *record, size_t n, uint16_t offset, uint8_t *o, size_t m, uint8_t *r, size_t k) {
     handed("fsq_encode", record, n, o, m, r);
@@ -134,6 +136,11 @@ uint8_t __wrap_fsq_evaluate(const uint8_t *text, size_t n, uint8_t *r, size_t k)
 uint8_t __wrap_fsq_cue(const uint8_t *cues, size_t n, uint8_t *image, size_t m, uint8_t *r, size_t k) {
     handed("fsq_cue", cues, n, image, m, r);
     return __real_fsq_cue(cues, n, image, m, r, k);
+}
+
+uint8_t __wrap_fsq_run(const uint8_t *image, size_t n, uint32_t budget, uint8_t *log, size_t m, uint8_t *o, size_t k) {
+    handed("fsq_run", image, n, log, m, o);
+    return __real_fsq_run(image, n, budget, log, m, o, k);
 }
 
 enum function { ENCODE, LIST, READ, LOAD, FORM, EVALUATE, SHORTEST, CUE };
@@ -373,6 +380,71 @@ static void compile_all(void) {
             }
 }
 
+/* A run; the answer is compared with `first`, the one that a whole result came with, where that is not negative. */
+static int call_run(const uint8_t *bytes, size_t length, uint32_t budget, size_t log_len, size_t out_len, int first) {
+    uint8_t *log = lend(out, log_len), *o = lend(report, out_len), answer = fsq_run(bytes, length, budget, log, log_len, o, out_len);
+    int told = out_len >= FSQ_RUN_RESULT_LENGTH;
+    uint64_t count = told ? fsq_get_u64(o + FSQ_RUN_COUNT_AT) : 0, pairs = told ? fsq_get_u64(o + FSQ_RUN_LOG_LENGTH_AT) : answer == FSQ_DONE ? log_len : 0;
+    const char *wrong = NULL;
+    calls++;
+    refusals += answer != FSQ_DONE;
+    if (first >= 0 && answer != first)
+        wrong = "the answer depends on the result's length";
+    else if (answer != FSQ_DONE && (count != 0 || pairs != 0))
+        wrong = "a count beside a refusal";
+    else if (pairs > log_len || (told && (pairs % 2 != 0 || count > budget || 2 * count < pairs)))
+        wrong = "more is answered than the log or the budget holds";
+    else if (!stays_but(out, log, (size_t) pairs))
+        wrong = "a byte is changed that stays";
+    else if (!stays_but(report, o, told ? FSQ_RUN_RESULT_LENGTH : 0))
+        wrong = "a byte beside the result is changed";
+    if (wrong != NULL)
+        failed("fsq_run", wrong, length, log_len, out_len, answer);
+    return answer;
+}
+
+/* The inline function beside the library's. Null are, by the bits of `nulls`, the image and the log, with their lengths, and the result. */
+static void call_run_image(const uint8_t *bytes, size_t length, uint32_t budget, size_t log_len, unsigned nulls) {
+    static uint8_t right[OUT];
+    fsq_run_result_t told, *result = nulls & 4u ? NULL : (fsq_run_result_t *) lend(report, sizeof *result);
+    size_t given = nulls & 1u ? 0 : length, lent = nulls & 2u ? 0 : log_len, pairs;
+    uint8_t *log = nulls & 2u ? NULL : lend(out, log_len), number = fsq_run(bytes, given, budget, right, lent, told.bytes, sizeof told.bytes);
+    int answer = fsq_run_image(nulls & 1u ? NULL : bytes, length, budget, log, log_len, result);
+    const char *wrong = NULL;
+    calls++;
+    refusals += number != FSQ_DONE;
+    pairs = (size_t) fsq_run_log_length(&told);
+    if (read_len != given || written_len != lent)
+        wrong = "other lengths than were given";
+    else if (answer != -(int) number)
+        wrong = "another answer than the library's";
+    else if (log != NULL && (memcmp(log, right, pairs) != 0 || !stays_but(out, log, pairs)))
+        wrong = "another log than the library's";
+    else if (result != NULL && (memcmp(result, &told, sizeof told) != 0 || !stays_but(report, result->bytes, sizeof told)))
+        wrong = "another result than the library's";
+    if (wrong != NULL)
+        failed("fsq_run_image", wrong, given, lent, 0, answer);
+}
+
+/* An image, whole and with a byte changed, from 0 bytes to all of them, with a log of each length that can matter. */
+static void run_all(const uint8_t *bytes, size_t length) {
+    static const size_t results[] = {0, 1, 15, 17, 40};
+    static const uint32_t budgets[] = {0, 1, 2, 3, 7, 20, 300};
+    for (size_t front = 0; front <= length; front++)
+        for (int change = 0; change < 4; change++) {
+            const uint8_t *at = lend_in(bytes, front, change);
+            for (size_t log_len = 0; log_len < 8; log_len++) {
+                /* The whole image gets a budget in which it can halt. */
+                uint32_t budget = budgets[front < length || change != 0 ? below(7) : log_len % 2 + 5];
+                int first = call_run(at, front, budget, log_len, FSQ_RUN_RESULT_LENGTH, -1);
+                for (size_t i = 0; i < sizeof results / sizeof *results; i++)
+                    call_run(at, front, budget, log_len, results[i], first);
+                for (unsigned nulls = 0; nulls < 8; nulls++)
+                    call_run_image(at, nulls & 1u && nulls & 4u ? 0 : front, budget, nulls & 2u && nulls & 4u ? 0 : log_len, nulls);
+            }
+        }
+}
+
 /* A record of so many bytes, or the header where the number is below 0, into a file of each length that can matter, and into none. */
 static void write_inline(room to, int number, const uint8_t *record, size_t each) {
     size_t n = number < 0 ? FSQ_HEADER_LENGTH : each, at = number < 0 ? 0 : FSQ_HEADER_LENGTH + (size_t) number * n, end = at + n;
@@ -436,6 +508,12 @@ int main(int argc, char **argv) {
     static const char *const sums[] = {
         "3*(40+2)-1", "-2147483648", "1-2147483648", "-(-(7/2)--3)*(1+(2-(3*(4/5))))", "00000000000000000000000000000000000007", "99999999999999999999",
         "((((((((((((((((1))))))))))))))))+((2))", "(((((((((((((((((1)))))))))))))))))", "1/0-----------------1", "46340*46340/46340*-1"
+    };
+    /* Two cues and HLT; the other forms of MOV and of JMP; pairs until the log or the budget ends. */
+    static const uint8_t images[3][19] = {
+        {0xB9, 3, 0, 0xE2, 0xFE, 0xB0, 1, 0xE6, 0x61, 0xB9, 2, 0, 0xE2, 0xFE, 0xB0, 0x80, 0xE6, 0x62, 0xF4},
+        {0xC7, 0xC1, 2, 0, 0xC6, 0xC0, 5, 0xB4, 9, 0xE6, 0x10, 0xE2, 0xFC, 0xE9, 1, 0, 0x90, 0xE6, 0xF4},
+        {0xB0, 7, 0xE6, 0x20, 0xE6, 0x21, 0xEB, 0xFA, 0xE9, 0xF5, 0xFF, 0xBC, 1, 1, 0xB5, 1, 0xE2, 0xF0, 0xF4}
     };
     static uint8_t file[WHOLE], record_57[3 * REPEAT];
     FILE *f = argc == 2 ? fopen(argv[1], "rb") : NULL;
@@ -508,6 +586,8 @@ int main(int argc, char **argv) {
     for (size_t i = 0; i < sizeof sums / sizeof *sums && count <= FSQ_SHORT_RECORDS; i++)
         evaluate_all(sums[i]);
     compile_all();
+    for (size_t i = 0; i < 3 && count <= FSQ_SHORT_RECORDS; i++)
+        run_all(images[i], sizeof images[i]);
     for (int with = 0; with < 2; with++) {
         size_t each_of = with ? REPEAT : RECORD;
         write_inline(whole, FSQ_SHORT_RECORDS, lend_in(file + FSQ_HEADER_LENGTH, each_of, 0), each_of);

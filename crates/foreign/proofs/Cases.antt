@@ -43,6 +43,9 @@ use Rattle.foreign.specs.ShortestRecord.{responseShortest}
 use Rattle.shortest_encoder.specs.Shortest.{shortestAnswer}
 use Rattle.foreign.specs.LoadShow.{responseLoadError, responseLoaded}
 use Rattle.foreign.specs.ReadBytes.{operandHead, operandValues, readBytes}
+use Rattle.desk_run.specs.declared.Ran.the-variants as D
+use Rattle.desk_run.specs.declared.RunError.the-variants as N
+use Rattle.foreign.specs.RunImage.{runNumber, resultAfter}
 
 record Rows : Type 0 where
   image : (h : Header) → reportBytes (responseLoaded (L.Image h 7000)) ≡ (0x58 ∷ 0x1B ∷ 0 ∷ 0 ∷ []) ++ (zeros4 ++ (zeros4 ++ (zeros12 ++ ones4)))
@@ -213,3 +216,18 @@ record Cues : Type 0 where
 cues : Cues
 unfolding u32Bytes
 cues = record { most = (refl, refl); no-cue-list = (refl, refl); no-delay = (refl, refl); too-short = (refl, refl) }
+
+-- ---- runs: 13,107,601 instructions, the most of 200 cues, with their 400 bytes of pairs; a log of more than 2^32 bytes; the numbers; a result that is too short
+record Runs : Type 0 where
+  halted : resultAfter (D.Halted 13107601 400) (replicate 17 9) ≡ (0x91 ∷ 0x01 ∷ 0xC8 ∷ 0 ∷ []) ++ (zeros4 ++ ((0x90 ∷ 0x01 ∷ 0 ∷ 0 ∷ []) ++ (zeros4 ++ (9 ∷ []))))
+  long-log : resultAfter (D.Halted 4294967295 8589934588) (replicate 16 9) ≡ ones4 ++ (zeros4 ++ ((0xFC ∷ 0xFF ∷ 0xFF ∷ 0xFF ∷ []) ++ (1 ∷ 0 ∷ 0 ∷ 0 ∷ [])))
+  short-result : resultAfter (D.Halted 13107601 400) (replicate 15 9) ≡ replicate 15 9
+  refused : resultAfter (D.Refused N.BudgetSpent) (replicate 16 9) ≡ zeros8 ++ zeros8
+  halts : runNumber (D.Halted 1 0) ≡ 0
+  not-carried-out : runNumber (D.Refused N.NotCarriedOut) ≡ 21
+  budget-spent : runNumber (D.Refused N.BudgetSpent) ≡ 22
+  log-too-short : runNumber (D.Refused N.LogTooShort) ≡ 9
+
+runs : Runs
+unfolding u32Bytes
+runs = record { halted = refl; long-log = refl; short-result = refl; refused = refl; halts = refl; not-carried-out = refl; budget-spent = refl; log-too-short = refl }

@@ -5,4 +5,5 @@ pub mod EvaluateText
 pub mod ListRecord
 pub mod LoadShow
 pub mod ReadBytes
+pub mod RunImage
 pub mod FormRecord

@@ -7,4 +7,5 @@ pub mod form;
 pub mod list;
 pub mod load;
 pub mod read;
+pub mod run;
 pub mod shortest;

@@ -162,7 +162,7 @@ fn bits_of(value: i32) -> u32
 }
 
 // Writes a u32 at a place, low byte first.
-fn put_u32(report: &mut [u8], at: usize, n: u32)
+pub fn put_u32(report: &mut [u8], at: usize, n: u32)
     requires { ⌜ at + 4 ≤ length (now report) ⌝ }
     ensures { λ _. ⌜ now (report .exit) ≡ sets (now (report .entry)) at (u32Bytes n) ⌝ }
 {

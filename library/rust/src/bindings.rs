@@ -43,6 +43,7 @@ extern "C" {
     pub fn fsq_load(file: *const u8, file_len: usize, image: *mut u8, image_len: usize, report: *mut u8, report_len: usize) -> u8;
     pub fn fsq_evaluate(text: *const u8, text_len: usize, report: *mut u8, report_len: usize) -> u8;
     pub fn fsq_cue(cues: *const u8, cues_len: usize, image: *mut u8, image_len: usize, report: *mut u8, report_len: usize) -> u8;
+    pub fn fsq_run(image: *const u8, image_len: usize, budget: u32, log: *mut u8, log_len: usize, out: *mut u8, out_len: usize) -> u8;
 }
 
 // enum fsq_answer
@@ -67,6 +68,8 @@ pub const FSQ_TOO_DEEP: u8 = 17;
 pub const FSQ_VALUE_OUT_OF_RANGE: u8 = 18;
 pub const FSQ_NOT_A_CUE_LIST: u8 = 19;
 pub const FSQ_NO_DELAY: u8 = 20;
+pub const FSQ_NOT_CARRIED_OUT: u8 = 21;
+pub const FSQ_BUDGET_SPENT: u8 = 22;
 pub const FSQ_INVALID_REPEAT: u8 = 23;
 
 // enum fsq_length
@@ -78,6 +81,8 @@ pub const FSQ_READING_LENGTH: usize = 24;
 pub const FSQ_ENTRY_LENGTH: usize = 8;
 pub const FSQ_LIST_LENGTH: usize = 96;
 pub const FSQ_FORM_LENGTH: usize = 64;
+pub const FSQ_RUN_RESULT_LENGTH: usize = 16;
+pub const FSQ_REACH_LENGTH: usize = 65536;
 pub const FSQ_HEADER_LENGTH: usize = 9;
 pub const FSQ_OPERAND_LENGTH: usize = 23;
 pub const FSQ_IMAGE_LENGTH: usize = 56000;
@@ -104,6 +109,10 @@ pub const FSQ_REPORT_VALUE_AT: usize = 12;
 pub const FSQ_REPORT_LOW_AT: usize = 16;
 pub const FSQ_REPORT_HIGH_AT: usize = 20;
 pub const FSQ_REPORT_RECORD_AT: usize = 24;
+
+// enum fsq_run_result
+pub const FSQ_RUN_COUNT_AT: usize = 0;
+pub const FSQ_RUN_LOG_LENGTH_AT: usize = 8;
 
 // enum fsq_header
 pub const FSQ_HEADER_MARK_AT: usize = 0;

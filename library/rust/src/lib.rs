@@ -82,6 +82,20 @@
 //! # Ok::<(), fsq::Refusal>(())
 //! ```
 //!
+//! [`run`] runs an image on the desk, and gives the ports and masks that it puts out:
+//!
+//! ```
+//! use fsq::{run, Pair};
+//!
+//! // Document 02, No. 9: MOV CX,10; LOOP to itself; MOV AL,1; OUT 97,AL; HLT. Its No. 10: 10 + 3 steps and HLT.
+//! let image = [0xB9, 0x0A, 0x00, 0xE2, 0xFE, 0xB0, 0x01, 0xE6, 0x61, 0xF4];
+//! let mut log = [0; 2];
+//! let ran = run(&image, 10 + 3 + 1, &mut log)?;
+//! assert_eq!(ran.count(), 14);
+//! assert!(ran.pairs().eq([Pair { port: 97, mask: 1 }]));
+//! # Ok::<(), fsq::Refusal>(())
+//! ```
+//!
 //! The functions keep nothing between calls, and several threads may call them at once. They are proved; the text of instructions and operands
 //! is not.
 //!
@@ -108,6 +122,7 @@ mod operand;
 mod operation;
 mod reading;
 mod refusal;
+mod run;
 mod show;
 mod sum;
 mod text;
@@ -123,6 +138,7 @@ pub use operand::{Base, Jump, Operand, Register, Segment, Size, Span};
 pub use operation::Operation;
 pub use reading::{read, Extension, Part, Reading};
 pub use refusal::{Found, Reason, Refusal};
+pub use run::{run, Pair, Run};
 #[cfg(feature = "alloc")]
 pub use show::{load, show_file};
 pub use show::{Record, Records, Show};

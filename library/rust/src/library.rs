@@ -4,9 +4,10 @@
 //! functions write nothing outside of them, and only what a call's contract says.
 
 use crate::bindings::{
-    fsq_cue, fsq_encode, fsq_evaluate, fsq_form, fsq_list, fsq_load, fsq_read, fsq_shortest, FSQ_DONE, FSQ_FORM_LENGTH, FSQ_HEADER_LENGTH,
-    FSQ_INVALID_REPEAT, FSQ_NO_RECORD, FSQ_READING_LENGTH, FSQ_REPORT_HIGH_AT, FSQ_REPORT_LENGTH, FSQ_REPORT_LENGTH_AT, FSQ_REPORT_LOW_AT,
-    FSQ_REPORT_RECORD_AT, FSQ_REPORT_SPAN_END_AT, FSQ_REPORT_SPAN_START_AT, FSQ_REPORT_VALUE_AT, FSQ_SLICE_TOO_SHORT, FSQ_STRING_LENGTH,
+    fsq_cue, fsq_encode, fsq_evaluate, fsq_form, fsq_list, fsq_load, fsq_read, fsq_run, fsq_shortest, FSQ_DONE, FSQ_FORM_LENGTH,
+    FSQ_HEADER_LENGTH, FSQ_INVALID_REPEAT, FSQ_NO_RECORD, FSQ_READING_LENGTH, FSQ_REPORT_HIGH_AT, FSQ_REPORT_LENGTH, FSQ_REPORT_LENGTH_AT,
+    FSQ_REPORT_LOW_AT, FSQ_REPORT_RECORD_AT, FSQ_REPORT_SPAN_END_AT, FSQ_REPORT_SPAN_START_AT, FSQ_REPORT_VALUE_AT, FSQ_RUN_COUNT_AT,
+    FSQ_RUN_LOG_LENGTH_AT, FSQ_RUN_RESULT_LENGTH, FSQ_SLICE_TOO_SHORT, FSQ_STRING_LENGTH,
 };
 use crate::refusal::{question_of, Found, Reason, Refusal};
 use crate::show::record_length;
@@ -65,8 +66,14 @@ pub fn read(bytes: &[u8], offset: u16) -> Result<[u8; FSQ_READING_LENGTH], Refus
     let number = unsafe { fsq_read(bytes.as_ptr(), bytes.len(), offset, out.as_mut_ptr(), out.len()) };
     match number {
         FSQ_DONE => Ok(out),
-        _ => Err(Refusal { reason: Reason::of(number, 0, 0, 0), span: None, record: None, found: None, question: None }),
+        _ => Err(alone(number)),
     }
+}
+
+/// A refusal that has its number and nothing besides.
+#[cold]
+fn alone(number: u8) -> Refusal {
+    Refusal { reason: Reason::of(number, 0, 0, 0), span: None, record: None, found: None, question: None }
 }
 
 /// The number of bytes at the front of the image.
@@ -98,6 +105,18 @@ pub fn compile(cues: &[u8], image: &mut [u8]) -> Result<usize, Refusal> {
     // SAFETY: as in encode.
     let number = unsafe { fsq_cue(cues.as_ptr(), cues.len(), image.as_mut_ptr(), image.len(), report.as_mut_ptr(), report.len()) };
     answered(number, &report, |refusal| Refusal { span: None, ..refusal })
+}
+
+/// The instructions carried out, and the number of bytes at the front of the log.
+pub fn run(image: &[u8], budget: u32, log: &mut [u8]) -> Result<(u64, usize), Refusal> {
+    let mut result = [0; FSQ_RUN_RESULT_LENGTH];
+    // SAFETY: as in encode.
+    let number = unsafe { fsq_run(image.as_ptr(), image.len(), budget, log.as_mut_ptr(), log.len(), result.as_mut_ptr(), result.len()) };
+    let field = |at: usize| result[at..at + 8].iter().rev().fold(0, |n, &byte| n << 8 | u64::from(byte));
+    match number {
+        FSQ_DONE => Ok((field(FSQ_RUN_COUNT_AT), field(FSQ_RUN_LOG_LENGTH_AT) as usize)),
+        _ => Err(alone(number)),
+    }
 }
 
 fn field(report: &Report, at: usize) -> u32 {

@@ -61,6 +61,10 @@ pub enum Reason {
     NotACueList,
     /// 20: a cue has a delay of 0.
     NoDelay,
+    /// 21: the next bytes inside the image are no instruction, or one that a [`run`](crate::run) does not carry out.
+    NotCarriedOut,
+    /// 22: the whole budget is carried out, and HLT was not met.
+    BudgetSpent,
     /// 23: the repeat is neither F2 nor F3, or the operation is no string operation and has one.
     InvalidRepeat,
     /// Another number: one that the library has and this crate does not know.
@@ -264,6 +268,8 @@ impl Reason {
             Reason::ValueOutOfRange => FSQ_VALUE_OUT_OF_RANGE,
             Reason::NotACueList => FSQ_NOT_A_CUE_LIST,
             Reason::NoDelay => FSQ_NO_DELAY,
+            Reason::NotCarriedOut => FSQ_NOT_CARRIED_OUT,
+            Reason::BudgetSpent => FSQ_BUDGET_SPENT,
             Reason::InvalidRepeat => FSQ_INVALID_REPEAT,
             Reason::Other(number) => *number,
         }
@@ -292,6 +298,8 @@ impl Reason {
             FSQ_VALUE_OUT_OF_RANGE => Reason::ValueOutOfRange,
             FSQ_NOT_A_CUE_LIST => Reason::NotACueList,
             FSQ_NO_DELAY => Reason::NoDelay,
+            FSQ_NOT_CARRIED_OUT => Reason::NotCarriedOut,
+            FSQ_BUDGET_SPENT => Reason::BudgetSpent,
             FSQ_INVALID_REPEAT => Reason::InvalidRepeat,
             other => Reason::Other(other),
         }
@@ -325,6 +333,8 @@ impl fmt::Display for Reason {
                 write!(f, "the length is no multiple of {FSQ_CUE_LENGTH}, or there are more than {FSQ_MOST_CUES} cues")
             }
             Reason::NoDelay => f.write_str("a cue has a delay of 0"),
+            Reason::NotCarriedOut => f.write_str("the next bytes inside the image are no instruction that a run carries out"),
+            Reason::BudgetSpent => f.write_str("the whole budget is carried out, and HLT was not met"),
             Reason::InvalidRepeat => f.write_str("the repeat is neither REP nor REPNE, or the operation takes none"),
             Reason::Other(number) => write!(f, "the reason {number}, which this crate does not know"),
         }
