@@ -12,7 +12,7 @@ import bindings
 import operations as scripts
 
 ROOT = pathlib.Path(__file__).resolve().parent.parent
-OPERATIONS, REFUSALS, VERSIONS = 99, 23, 3
+OPERATIONS, REFUSALS, VERSIONS = 99, 25, 3
 failures = []
 
 
@@ -81,7 +81,8 @@ def source():
         slots='read_slots/src/lib', run='encode_run/src/lib', lister='lister/src/lib', entries='list_entries/src/lib', form='text_form/src/lib', ground='encode_form/src/lib',
         text='show_text/src/lib', x86='x86/src/lib', evaluate='foreign/src/evaluate', sum='sum_evaluate/src/lib', answer='sum_text/src/lib',
         program='fsqsum/src/main', cues='cue_compile/src/lib', cue='foreign/src/cue', compiler='fsqcue/src/main',
-        desk='desk_run/src/lib', result='foreign/src/run', desk_text='desk_text/src/lib', simulator='fsqrun/src/main').items()}
+        desk='desk_run/src/lib', result='foreign/src/run', desk_text='desk_text/src/lib', simulator='fsqrun/src/main',
+        convert='convert_spec/src/lib', converted='foreign/src/convert', converter='show_convert/src/lib', fsq186='fsq186/src/main').items()}
     sums = Text('crates/sum_spec/specs/Sums.antt')
     s = {}
 
@@ -106,7 +107,7 @@ def source():
             twice(enum, code['record'], {f'first unknown of {field}': known and int(''.join(known))}, {f'first unknown of {field}': count})
     twice('size', code['operands'], code['operands'].numbers(r'OperandSize::(\w+) => (\d+),', 3, snake), s['size'])
 
-    # Refusals: the encoder's, the loader's, the reader's, the evaluator's, the cue compiler's, the desk's; then where they cross.
+    # Refusals: the encoder's, the loader's, the reader's, the evaluator's, the cue compiler's, the desk's, the converter's; then where they cross.
     s['answer'] = {'DONE': 0}
     s['answer'] |= code['file'].numbers(r'EncodeError::(\w+)\([_, ]*\) => (\d+),', 10, snake)
     s['answer'] |= {'NOT_AN_INSTRUCTION': code['reader'].number(r'Decoded::Nothing => Refusal::Is\((\d+)\)'), 'NOT_COMPLETE': code['reader'].number(r'Decoded::More => Refusal::Is\((\d+)\)')}
@@ -124,6 +125,12 @@ def source():
     ran = code['desk'].numbers(r'RunError::(\w+) => (\d+),', 3, lambda n: {'LogTooShort': 'SLICE_TOO_SHORT'}.get(n, snake(n)))
     s['answer'] = ran | s['answer']
     twice('refusal', code['desk'], ran, {name: s['answer'].get(name) for name in ran})
+    # The converter's, by which fsq186 says them; the library has them in code.
+    converted = code['convert'].numbers(r'ConvertError::(\w+)(?:\(_\))? => (\d+),', 3, snake)
+    s['answer'] = converted | s['answer']
+    twice('refusal', code['convert'], converted, {name: s['answer'].get(name) for name in converted})
+    if sorted(s['answer'].values()) != list(range(REFUSALS + 1)):
+        wrong(f'the refusals are not 1 to {REFUSALS}, each once')
     if len(s['answer']) != REFUSALS + 1:
         wrong(f'the source has {len(s["answer"]) - 1} and not {REFUSALS} refusals')
     crossing = code['report'].numbers(r'EncodeError::(\w+)\(span\) => response_span\((\d+), span\)', 8, snake)
@@ -135,6 +142,9 @@ def source():
     code['result'].one(r'Ran::Refused\(error\) => \{\s*write_result\(0, 0, out\);\s*error\.number\(\)')
     code['desk_text'].one(r'push_decimal\(word, error\.number\(\) as usize\)')
     crossing = compiled | ran | crossing
+    converted = code['converted'].numbers(r'ConvertError::(\w+)(?:\(k\))? => (?:of_record\()?response_alone\((\d+)\)', 3, snake)
+    twice('refusal', code['converted'], converted, {name: s['answer'].get(name) for name in converted})
+    crossing = converted | crossing
     crossing |= {'NOT_AN_INSTRUCTION': code['read'].number(r'Decoded::Nothing => (\d+),'), 'NOT_COMPLETE': code['read'].number(r'Decoded::More => (\d+),')}
     twice('refusal', Text('crates/foreign', ''), {'DONE': 0} | crossing, s['answer'])
     record = dict(zip(('UNKNOWN_CODE', 'WRONG_LENGTH'), map(int, code['encode'].part(r'pub fn record_number\(').one(r'\}\s*return (\d+);\s*\}\s*(\d+)$') or ())))
@@ -197,6 +207,14 @@ def source():
     each, last = map(int, code['desk_text'].one(r'if out\.len\(\) < (\d+) \* room \+ (\d+) ') or (0, 0))
     twice('length', code['simulator'], {'text': code['simulator'].number(r'let mut out = \[0; (\d+)\];')}, {'text': each * log + last})
     twice('length', code['simulator'], {'pairs': code['simulator'].number(r'The log holds (\d+) pairs')}, {'pairs': log // 2})
+    # The longest file that is written, of version 1, by fsq186's slice and the converter's own lengths.
+    s['length']['CONVERTED_LENGTH'] = code['fsq186'].number(r'let mut out = \[0; (\d+)\];')
+    lengths = code['converter'].numbers(r'const (HEADER_LENGTH|RECORD_LENGTH): usize = (\d+);', 2)
+    twice('length', code['converter'], lengths, {name: s['length'][name] for name in lengths})
+    twice('length', code['fsq186'], {'CONVERTED_LENGTH': s['length']['CONVERTED_LENGTH']}, {'CONVERTED_LENGTH': header + values['RECORD_LENGTH'] * s['limit']['SHORT_RECORDS']})
+    twice('limit', code['converter'], {'SHORT_RECORDS': code['converter'].number(r'if (\d+) < c ')}, {'SHORT_RECORDS': s['limit']['SHORT_RECORDS']})
+    places = code['converter'].numbers(r'const (FIRST|SECOND)_IMM: usize = (\d+);', 2)
+    twice('operand', code['converter'], places, {name: s['record'][f'{name}_AT'] + s['operand']['IMMEDIATE_AT'] for name in places})
     twice('length', code['lister'], {'LIST_LENGTH': s['length']['LIST_LENGTH']}, {'LIST_LENGTH': entry * entries})
     at, high = (code['result'].number(rf'put_{name}\(out, (\d+), ') for name in ('three', 'u32'))
     s['run_result'] = {'RUN_COUNT_AT': at, 'RUN_LOG_LENGTH_AT': high - 4}

@@ -1,5 +1,5 @@
 //! What a call costs: our encoder, also by the shortest string, reader, lister, loader and the text of a form on the records of records.fsq, beside the Rust of
-//! docs/src and Zydis; the value of a sum, cues, and runs on the desk.
+//! docs/src and Zydis; the value of a sum, cues, runs on the desk, and a show to convert.
 //! `build` wraps this file and the Rust's sources into one crate; see README.md.
 
 #[allow(dead_code, unused_imports)]
@@ -12,6 +12,7 @@ mod records;
 mod bindings;
 
 mod clock;
+mod convert;
 mod cues;
 mod groups;
 mod rattle;
@@ -46,12 +47,14 @@ pub fn main() -> ExitCode {
         ["cues"] => cues::Sheet::new().print(),
         ["image"] => runs::Desk::new(true).print(),
         ["steps"] => Ok(println!("{}", runs::Desk::new(true).count())),
+        ["branches"] => convert::Branches::new().print(),
         ["work", _, "sum-rattle", rounds] => work(sums::Texts::delays(), rounds),
         ["work", _, "cue-rattle", rounds] => work(cues::Sheet::new(), rounds),
         ["work", _, "run-rattle", rounds] => work(runs::Desk::new(true), rounds),
         ["work", _, "run-refused", rounds] => work(runs::Desk::new(false), rounds),
+        ["work", _, "convert-rattle", rounds] => work(convert::Branches::new(), rounds),
         ["work", file, side, rounds] => Show::read(file).and_then(|show| work(OnShow::new(&show, sides::named(side).ok_or(format!("no side {side}"))?), rounds)),
-        _ => Err("full FILE, short FILE, listing FILE, texts, cues, image, steps, or work FILE SIDE ROUNDS".to_string()),
+        _ => Err("full FILE, short FILE, listing FILE, texts, cues, image, steps, branches, or work FILE SIDE ROUNDS".to_string()),
     };
     match done {
         Ok(()) => ExitCode::SUCCESS,
@@ -80,6 +83,7 @@ fn measure(show: &Show, rounds: usize, warming: usize, timed: bool) -> Result<()
     println!("sums: {}", sums::agree()?);
     println!("cues: {}", cues::agree()?);
     println!("runs: {}", runs::agree()?);
+    println!("convert: {}", convert::agree()?);
 
     fn on<'a>(show: &'a Show, names: &[&str]) -> Vec<OnShow<'a>> {
         names.iter().filter_map(|name| Some(OnShow::new(show, sides::named(name)?))).collect()
@@ -95,6 +99,7 @@ fn measure(show: &Show, rounds: usize, warming: usize, timed: bool) -> Result<()
     let sums = clock(vec![sums::Texts::delays()], rounds, warming)?;
     let cues = clock(vec![cues::Sheet::new()], rounds, warming)?;
     let runs = clock(vec![runs::Desk::new(true), runs::Desk::new(false)], rounds / 100 + 1, warming / 10)?;
+    let converts = clock(vec![convert::Branches::new()], rounds / 10 + 1, warming / 10)?;
     let grown = [1, 2, 4, 8].into_iter().map(|times| show.times(times)).collect::<Result<Vec<Show>, String>>()?;
     let grow = |names: &[&str]| clock(grown.iter().flat_map(|longer| on(longer, names)).collect(), rounds / 10 + 1, warming / 10);
     let encoded = grow(&["encode-rattle", "encode-rust"])?;
@@ -124,6 +129,7 @@ fn measure(show: &Show, rounds: usize, warming: usize, timed: bool) -> Result<()
     println!("cue: rattle {}/cue", cues[0]);
     println!("run: rattle {}/step; refused on its last step, one pass without a log, {}/step", runs[0], runs[1]);
     println!("run: {:.1} million steps a second; the longest sheet {:.2} s", 1000.0 / runs[0].median, longest[0].median * 13_107_601.0 / 1e9);
+    println!("convert: rattle {}/record", converts[0]);
     for (what, growth) in [("encodes", encoded), ("records loaded", loaded)] {
         for (longer, figures) in grown.iter().zip(growth.chunks(2)) {
             let n = longer.records.len();

@@ -58,6 +58,13 @@ pub fn cue(cues: &[u8], image: &mut [u8], report: &mut Report) -> Option<usize> 
     (number == FSQ_DONE).then(|| length(report))
 }
 
+/// The length of the converted file, which stands at the front of out.
+#[inline]
+pub fn convert(file: &[u8], out: &mut [u8], report: &mut Report) -> Option<usize> {
+    let number = unsafe { fsq_convert(file.as_ptr(), file.len(), out.as_mut_ptr(), out.len(), report.as_mut_ptr(), report.len()) };
+    (number == FSQ_DONE).then(|| length(report))
+}
+
 /// The value of a sum.
 #[inline]
 pub fn evaluate(text: &[u8], report: &mut Report) -> Option<i32> {

@@ -4,9 +4,9 @@
  *
  * This header has, in this order: the numbers and offsets; the functions of the library; and over them inline functions, which a program
  * needs no offsets for: operands (fsq_reg, fsq_mem, ..), records (fsq_none, fsq_one, fsq_two), records with a repeat (fsq_with_repeat), calls whose
- * answer is the length (fsq_encode_at, fsq_shortest_at, fsq_list_at, fsq_form_at, fsq_read_at, fsq_load_show, fsq_compile_cues), the value of a sum
- * (fsq_evaluate_text), a run on the desk (fsq_run_image), fields, names, and the writing of a show file (fsq_write_show). library/examples/one.c, show.c, cues.c
- * and desk.c use them.
+ * answer is the length (fsq_encode_at, fsq_shortest_at, fsq_list_at, fsq_form_at, fsq_read_at, fsq_load_show, fsq_compile_cues, fsq_convert_show),
+ * the value of a sum (fsq_evaluate_text), a run on the desk (fsq_run_image), fields, names, and the writing of a show file (fsq_write_show).
+ * library/examples/one.c, show.c, cues.c, desk.c and convert.c use them.
  *
  * The library's functions work on slices that the caller lends: an address and a length. For all of them:
  * - A slice of any length is safe. One of length 0 may have any address that is not null.
@@ -23,7 +23,7 @@
 
 /* The version of this header. Another major one may take a name away, another minor one adds some or raises a limit. */
 #define FSQ_VERSION_MAJOR 2
-#define FSQ_VERSION_MINOR 7
+#define FSQ_VERSION_MINOR 8
 
 #ifdef __cplusplus
 extern "C" {
@@ -44,8 +44,9 @@ enum fsq_answer {
     FSQ_NOT_AN_INSTRUCTION = 10,          /* No instruction begins with these bytes, whatever follows them. */
     FSQ_NOT_COMPLETE = 11,                /* The bytes are the front of an instruction, and more are needed. */
     FSQ_NO_MARK = 12,                     /* The file does not begin with "FSQ". */
-    FSQ_WRONG_VERSION = 13,               /* The file's version is not 1, 2 or 3. */
-    FSQ_WRONG_LENGTH = 14,                /* The file is not as long as its count says, its version does not take this count, or a record has not 56 or 57 bytes. */
+    FSQ_WRONG_VERSION = 13,               /* The file's version is not 1, 2 or 3; of fsq_convert, not 1. */
+    FSQ_WRONG_LENGTH = 14,                /* The file is not as long as its count says, its version does not take this count, or a record has not 56 or 57 bytes; of fsq_convert also
+                                             that the written file would have more than 1,000 records. */
     FSQ_UNKNOWN_CODE = 15,                /* A record has an operation, kind, size or jump kind that does not exist. */
     FSQ_NOT_A_SUM = 16,                   /* The text is not a sum, as fsq_evaluate has it. */
     FSQ_TOO_DEEP = 17,                    /* The sum is more than 16 brackets deep. */
@@ -54,7 +55,9 @@ enum fsq_answer {
     FSQ_NO_DELAY = 20,                    /* A cue has a delay of 0. */
     FSQ_NOT_CARRIED_OUT = 21,             /* The next bytes inside the image are no instruction, or one that a run does not carry out. */
     FSQ_BUDGET_SPENT = 22,                /* The whole budget is carried out, and HLT was not met. */
-    FSQ_INVALID_REPEAT = 23               /* The repeat is not 0, F2 or F3 (hexadecimal), or the operation is no string operation and has one. */
+    FSQ_INVALID_REPEAT = 23,              /* The repeat is not 0, F2 or F3 (hexadecimal), or the operation is no string operation and has one. */
+    FSQ_SHIFT_COUNT_OUT_OF_RANGE = 24,    /* A shift or rotate of a show to convert has an immediate count outside 1 to 31. */
+    FSQ_NO_RECORD_AT_TARGET = 25          /* A branch of a show to convert goes to where no record stood, and not to its end. */
 };
 
 /* Lengths in bytes. */
@@ -73,6 +76,7 @@ enum fsq_length {
     FSQ_OPERAND_LENGTH = 23,        /* an operand of a record */
     FSQ_IMAGE_LENGTH = 56000,       /* the longest image: a slice of so many bytes takes every one */
     FSQ_FILE_LENGTH = 456009,       /* the longest show file, of version 3 */
+    FSQ_CONVERTED_LENGTH = 56009,   /* the longest file that fsq_convert writes, of version 1: a slice of so many bytes takes every one */
     FSQ_CUE_LENGTH = 4,             /* a cue */
     FSQ_CUE_CODE_LENGTH = 9,        /* the four instructions of a cue; behind the last cue's stands HLT, one byte */
     FSQ_CUE_IMAGE_LENGTH = 1801     /* the image of 200 cues: a slice of so many bytes takes every one of cues */
@@ -101,7 +105,7 @@ enum fsq_report {
     FSQ_REPORT_VALUE_AT = 12,       /* i32: the value of a refusal 5, the distance of a refusal 6; of fsq_evaluate the sum's value */
     FSQ_REPORT_LOW_AT = 16,         /* i32: the limits of a refusal 5 */
     FSQ_REPORT_HIGH_AT = 20,        /* i32 */
-    FSQ_REPORT_RECORD_AT = 24,      /* u32: the record, from 0, that fsq_load refuses, else FSQ_NO_RECORD */
+    FSQ_REPORT_RECORD_AT = 24,      /* u32: the record, from 0, that fsq_load or fsq_convert refuses, else FSQ_NO_RECORD */
     /* The same, as version 1 named them. */
     FSQ_TOLD_LENGTH_AT = FSQ_REPORT_LENGTH_AT, FSQ_TOLD_SPAN_START_AT = FSQ_REPORT_SPAN_START_AT, FSQ_TOLD_SPAN_END_AT = FSQ_REPORT_SPAN_END_AT,
     FSQ_TOLD_VALUE_AT = FSQ_REPORT_VALUE_AT, FSQ_TOLD_LOW_AT = FSQ_REPORT_LOW_AT, FSQ_TOLD_HIGH_AT = FSQ_REPORT_HIGH_AT,
@@ -333,10 +337,26 @@ uint8_t fsq_cue(const uint8_t *cues, size_t cues_len, uint8_t *image, size_t ima
  */
 uint8_t fsq_run(const uint8_t *image, size_t image_len, uint32_t budget, uint8_t *log, size_t log_len, uint8_t *out, size_t out_len);
 
+/* Converts a show from a 186 module, whose shifts and rotates may have an immediate count, to a show that the 8086 runs: a count of 2 to 31 becomes that many
+ * records with count 1, and each Jcc, E0 to E3, E8, E9 and EB goes to where its old target then stands; all else is copied.
+ *   file, file_len       the file, of version 1. Its records stood one behind the other from its origin on, a shift by 2 to 31 with a byte more, its count
+ *   out, out_len         gets the written file at its front, of version 1 and the same origin; its later bytes stay. On a refusal all of them stay
+ *   report, report_len   gets the report where it has 28 bytes, else stays as it is. Its length is that of the written file, 9 to 56,009. Its record is
+ *                        - of FILE for FSQ_UNKNOWN_CODE, FSQ_SHIFT_COUNT_OUT_OF_RANGE, FSQ_NO_RECORD_AT_TARGET and what the encoder refuses a record with
+ *                          where it stood;
+ *                        - of the WRITTEN file, in which each copy counts, for what the loader refuses there: FSQ_RELATIVE_JUMP_OUT_OF_RANGE and
+ *                          FSQ_IMMEDIATE_OUT_OF_RANGE of a short branch that the copies have made too long, or moved over 65,535
+ *   answers              FSQ_DONE; else, asked in this order: FSQ_NO_MARK, FSQ_WRONG_LENGTH, FSQ_WRONG_VERSION (also of versions 2 and 3), FSQ_WRONG_LENGTH,
+ *                        FSQ_UNKNOWN_CODE, FSQ_SHIFT_COUNT_OUT_OF_RANGE, what the encoder refuses the first record with where it stood, its count read as
+ *                        1, FSQ_NO_RECORD_AT_TARGET, FSQ_WRONG_LENGTH of more than 1,000 records to write, what the loader refuses the written file with,
+ *                        FSQ_SLICE_TOO_SHORT, which has no span and no record (docs/REFERENCE.md, 16)
+ */
+uint8_t fsq_convert(const uint8_t *file, size_t file_len, uint8_t *out, size_t out_len, uint8_t *report, size_t report_len);
+
 /* The inline functions.
  *
  * They stand over the library's functions and are compiled with the program that includes this header. They allocate nothing and keep nothing.
- * Where one answers an int, it is a length or a count, 0 or more, or a refusal's number made negative, -1 to -23:
+ * Where one answers an int, it is a length or a count, 0 or more, or a refusal's number made negative, -1 to -25:
  *
  *     int length = fsq_encode_at(&record, offset, out, sizeof out, &report);
  *     if (length < 0)
@@ -857,6 +877,29 @@ static inline uint64_t fsq_run_log_length(const fsq_run_result_t *result) {
     return fsq_get_u64(result->bytes + FSQ_RUN_LOG_LENGTH_AT);
 }
 
+/* Converts a show from a 186 module to one for the 8086: fsq_convert.
+ *   file, file_len   the file
+ *   out, out_len     gets the written file at its front; its later bytes stay. FSQ_CONVERTED_LENGTH bytes are enough for every one
+ *   report           gets the report, or is null. For 5 and 6 its record may be one of the written file: fsq_convert says when
+ *   answers          the length of the written file, 9 to 56,009, or a refusal's number made negative
+ */
+static inline int fsq_convert_show(const uint8_t *file, size_t file_len, uint8_t *out, size_t out_len, fsq_report_t *report) {
+    fsq_report_t own;
+    uint8_t answer;
+    if (report == NULL)
+        report = &own;
+    if (file == NULL) {
+        file = report->bytes;
+        file_len = 0;
+    }
+    if (out == NULL) {
+        out = report->bytes;
+        out_len = 0;
+    }
+    answer = fsq_convert(file, file_len, out, out_len, report->bytes, FSQ_REPORT_LENGTH);
+    return answer == FSQ_DONE ? (int) fsq_get_u32(report->bytes + FSQ_REPORT_LENGTH_AT) : -(int) answer;
+}
+
 /* The fields of a report. One that the answer does not give is 0, and the record FSQ_NO_RECORD. */
 
 /* The length or count that the function answers. */
@@ -982,22 +1025,22 @@ static inline uint16_t fsq_reading_far_segment(const fsq_reading_t *reading, uns
 
 /* Names. */
 
-/* Where the two lists below have an answer: by its number up to 23, then all that there is not. */
+/* Where the two lists below have an answer: by its number up to 25, then all that there is not. */
 static inline unsigned fsq_refusal_place(int answer) {
-    return answer >= 0 ? 0 : answer >= -FSQ_INVALID_REPEAT ? (unsigned) -answer : FSQ_INVALID_REPEAT + 1u;
+    return answer >= 0 ? 0 : answer >= -FSQ_NO_RECORD_AT_TARGET ? (unsigned) -answer : FSQ_NO_RECORD_AT_TARGET + 1u;
 }
 
 /* The name of a refusal, as enum fsq_answer has it without FSQ_.
  *   answer    what an inline function answers; what one of the library's answers is to be made negative
- *   answers   the name; "DONE" of 0 and every length, "UNKNOWN" below -23
+ *   answers   the name; "DONE" of 0 and every length, "UNKNOWN" below -25
  */
 static inline const char *fsq_refusal_name(int answer) {
     static const char *const names[] = {
         "DONE", "INVALID_OPERANDS", "OPERAND_SIZE_NOT_SPECIFIED", "OPERAND_SIZES_DO_NOT_MATCH", "INVALID_OPERAND_SIZE",
         "IMMEDIATE_OUT_OF_RANGE", "RELATIVE_JUMP_OUT_OF_RANGE", "NOT_SUPPORTED", "NOT_WELL_FORMED", "SLICE_TOO_SHORT",
         "NOT_AN_INSTRUCTION", "NOT_COMPLETE", "NO_MARK", "WRONG_VERSION", "WRONG_LENGTH", "UNKNOWN_CODE",
-        "NOT_A_SUM", "TOO_DEEP", "VALUE_OUT_OF_RANGE", "NOT_A_CUE_LIST", "NO_DELAY", "NOT_CARRIED_OUT", "BUDGET_SPENT",
-        "INVALID_REPEAT", "UNKNOWN"
+        "NOT_A_SUM", "TOO_DEEP", "VALUE_OUT_OF_RANGE", "NOT_A_CUE_LIST", "NO_DELAY", "NOT_CARRIED_OUT", "BUDGET_SPENT", "INVALID_REPEAT",
+        "SHIFT_COUNT_OUT_OF_RANGE", "NO_RECORD_AT_TARGET", "UNKNOWN"
     };
     return names[fsq_refusal_place(answer)];
 }
@@ -1021,7 +1064,7 @@ static inline const char *fsq_refusal_sentence(int answer) {
         "No instruction begins with these bytes.",
         "The bytes are the front of an instruction, and more are needed.",
         "The file does not begin with \"FSQ\".",
-        "The file's version is not 1, 2 or 3.",
+        "The file's version is not 1, 2 or 3, or not 1 where a show is converted.",
         "The file is not as long as its count says, its version does not take this count, or a record has not 56 or 57 bytes.",
         "A record has an operation, kind, size or jump kind that does not exist.",
         "The text is not a sum of decimal numbers, + - * / and brackets, without blanks.",
@@ -1032,6 +1075,8 @@ static inline const char *fsq_refusal_sentence(int answer) {
         "The next bytes inside the image are no instruction that a run carries out.",
         "The whole budget is carried out, and HLT was not met.",
         "The repeat is neither REP nor REPNE, or the operation takes none.",
+        "A shift or rotate has an immediate count outside 1 to 31.",
+        "A branch goes to where no record stood, and not to the end of the show.",
         "This header does not know the refusal."
     };
     return sentences[fsq_refusal_place(answer)];

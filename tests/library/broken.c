@@ -12,6 +12,7 @@ extern __typeof__(fsq_load) right_load;
 extern __typeof__(fsq_evaluate) right_evaluate;
 extern __typeof__(fsq_cue) right_cue;
 extern __typeof__(fsq_run) right_run;
+extern __typeof__(fsq_convert) right_convert;
 
 static int fault(const char *name) {
     const char *named = getenv("FSQ_FAULT");
@@ -409,6 +410,9 @@ uint8_t fsq_cue(const uint8_t *cues, size_t n, uint8_t *image, size_t m, uint8_t
         memset(report + FSQ_REPORT_LENGTH_AT + 1, 0, 3);
     if (fault("cue-into-27-bytes") && k == FSQ_REPORT_LENGTH - 1)
         memset(report, 0, 4);
+    return answer;
+}
+
 uint8_t fsq_run(const uint8_t *image, size_t n, uint32_t budget, uint8_t *log, size_t m, uint8_t *out, size_t k) {
     uint8_t answer, further, own[FSQ_RUN_RESULT_LENGTH];
     int told = k >= FSQ_RUN_RESULT_LENGTH;
@@ -495,5 +499,83 @@ uint8_t fsq_run(const uint8_t *image, size_t n, uint32_t budget, uint8_t *log, s
     }
     if (fault("run-result-of-four-bytes"))
         out[FSQ_RUN_COUNT_AT + 4] = 1;
+    return answer;
+}
+
+uint8_t fsq_convert(const uint8_t *file, size_t n, uint8_t *out, size_t m, uint8_t *report, size_t k) {
+    uint8_t answer, own[FSQ_REPORT_LENGTH];
+    int reported = k >= FSQ_REPORT_LENGTH;
+    size_t length, count = n >= FSQ_HEADER_LENGTH ? fsq_get_u16(file + FSQ_HEADER_COUNT_AT) : 0, i;
+    if (fault("convert-file-written") && n > 0)
+        ((volatile uint8_t *) file)[0] = file[0];
+    if (fault("convert-byte-before-a-refusal") && m > 0)
+        out[0] = 'F';
+    if (fault("convert-9-first") && n >= FSQ_HEADER_LENGTH && m < n)
+        return FSQ_SLICE_TOO_SHORT;
+    if (fault("convert-9-below-56009") && m < FSQ_CONVERTED_LENGTH)
+        m = 0;
+    if (fault("convert-into-27-bytes") && k == FSQ_REPORT_LENGTH - 1)
+        memset(report, 0, 4);
+    if (fault("convert-by-the-loader") && right_convert(file, n, out, m, own, sizeof own) == FSQ_DONE && count != 0 && right_load(file, n, own, 0, own, 0) == FSQ_INVALID_OPERANDS)
+        return FSQ_INVALID_OPERANDS;
+    answer = right_convert(file, n, out, m, report, k);
+    if (fault("convert-version-2-as-14") && answer == FSQ_WRONG_VERSION && file[FSQ_HEADER_VERSION_AT] == 2)
+        answer = FSQ_WRONG_LENGTH;
+    if (fault("convert-25-for-24") && answer == FSQ_SHIFT_COUNT_OUT_OF_RANGE)
+        answer = FSQ_NO_RECORD_AT_TARGET;
+    if (fault("convert-24-for-25") && answer == FSQ_NO_RECORD_AT_TARGET)
+        answer = FSQ_SHIFT_COUNT_OUT_OF_RANGE;
+    if (fault("convert-1-for-24") && answer == FSQ_SHIFT_COUNT_OUT_OF_RANGE)
+        answer = FSQ_INVALID_OPERANDS;
+    if (fault("convert-span-of-24") && answer == FSQ_SHIFT_COUNT_OUT_OF_RANGE && reported)
+        report[FSQ_REPORT_SPAN_END_AT] = 9;
+    if (fault("convert-value-of-24") && answer == FSQ_SHIFT_COUNT_OUT_OF_RANGE && reported)
+        report[FSQ_REPORT_VALUE_AT] = 40;
+    if (fault("convert-span-of-25") && answer == FSQ_NO_RECORD_AT_TARGET && reported)
+        report[FSQ_REPORT_SPAN_START_AT] = 11;
+    if (fault("convert-25-without-record") && answer == FSQ_NO_RECORD_AT_TARGET && reported)
+        fsq_put_u32(report + FSQ_REPORT_RECORD_AT, FSQ_NO_RECORD);
+    if (fault("convert-record-of-9") && answer == FSQ_SLICE_TOO_SHORT && reported)
+        fsq_put_u32(report + FSQ_REPORT_RECORD_AT, 0);
+    if (fault("convert-record-of-14") && answer == FSQ_WRONG_LENGTH && reported)
+        fsq_put_u32(report + FSQ_REPORT_RECORD_AT, 1000);
+    // the old file's record for the loader's refusal of the written one
+    if (fault("convert-old-record-of-6") && answer == FSQ_RELATIVE_JUMP_OUT_OF_RANGE && reported && fsq_get_u32(report + FSQ_REPORT_RECORD_AT) >= count)
+        fsq_put_u32(report + FSQ_REPORT_RECORD_AT, (uint32_t) count - 1);
+    if (fault("convert-old-record-of-5") && answer == FSQ_IMMEDIATE_OUT_OF_RANGE && reported)
+        fsq_put_u32(report + FSQ_REPORT_RECORD_AT, fsq_get_u32(report + FSQ_REPORT_RECORD_AT) - 1);
+    if (fault("convert-distance-lost") && answer == FSQ_RELATIVE_JUMP_OUT_OF_RANGE && reported)
+        fsq_put_u32(report + FSQ_REPORT_VALUE_AT, 0);
+    if (answer != FSQ_DONE)
+        return answer;
+    if (reported)
+        length = fsq_get_u32(report + FSQ_REPORT_LENGTH_AT);
+    else {
+        right_convert(file, n, out, m, own, sizeof own);
+        length = fsq_get_u32(own + FSQ_REPORT_LENGTH_AT);
+    }
+    if (fault("convert-old-count"))
+        memcpy(out + FSQ_HEADER_COUNT_AT, file + FSQ_HEADER_COUNT_AT, 2);
+    if (fault("convert-version-2-written"))
+        out[FSQ_HEADER_VERSION_AT] = 2;
+    if (fault("convert-origin-0"))
+        memset(out + FSQ_HEADER_ORIGIN_AT, 0, 2);
+    if (fault("convert-count-kept") && length > n)
+        out[length - FSQ_RECORD_LENGTH + FSQ_SECOND_AT + FSQ_IMMEDIATE_AT] ^= 2;
+    if (fault("convert-branch-left") && length > n && out[length - FSQ_RECORD_LENGTH] == FSQ_JE)
+        memcpy(out + length - FSQ_RECORD_LENGTH, file + n - FSQ_RECORD_LENGTH, FSQ_RECORD_LENGTH);
+    if (fault("convert-spans-cleared"))
+        for (i = FSQ_HEADER_LENGTH; i < length; i += FSQ_RECORD_LENGTH)
+            memset(out + i + FSQ_SPAN_START_AT, 0, 8);
+    if (fault("convert-last-byte") && length > FSQ_HEADER_LENGTH)
+        out[length - 1] ^= 1;
+    if (fault("convert-byte-behind") && m > length)
+        out[length] ^= 1;
+    if (fault("convert-length-of-the-old") && reported)
+        fsq_put_u32(report + FSQ_REPORT_LENGTH_AT, (uint32_t) n);
+    if (fault("convert-count-as-the-length") && reported)
+        fsq_put_u32(report + FSQ_REPORT_LENGTH_AT, fsq_get_u16(out + FSQ_HEADER_COUNT_AT));
+    if (fault("convert-length-in-16-bits") && reported)
+        fsq_put_u32(report + FSQ_REPORT_LENGTH_AT, (uint32_t) length & 32767u);
     return answer;
 }

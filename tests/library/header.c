@@ -1391,6 +1391,182 @@ static void runs(void) {
 #define OPERATION(name) \
     CHECK(FSQ_##name == number && strcmp(fsq_operation_name(FSQ_##name), #name) == 0), number++;
 
+/* The file of version 1 of some records; its length. */
+static size_t packed(uint8_t *file, uint16_t origin, const fsq_record_t *records, size_t count) {
+    size_t i;
+    fsq_write_header(file, FSQ_HEADER_LENGTH, origin, (uint16_t) count);
+    for (i = 0; i < count; i++)
+        memcpy(file + FSQ_HEADER_LENGTH + FSQ_RECORD_LENGTH * i, records[i].bytes, FSQ_RECORD_LENGTH);
+    return FSQ_HEADER_LENGTH + FSQ_RECORD_LENGTH * count;
+}
+
+/* A file by the inline function and by the library's: the written file, or a refusal with its record. What is lent is filled before, and behind the written file,
+ * or on a refusal all of it, stays; a report of 27 bytes stays. */
+static void converts(const uint8_t *file, size_t length, size_t lent, const uint8_t *written, int answer, uint32_t record, int line) {
+    static uint8_t out[FSQ_CONVERTED_LENGTH + 60], expected[sizeof out];
+    uint8_t told[FSQ_REPORT_LENGTH + 1], untouched[FSQ_REPORT_LENGTH + 1];
+    fsq_report_t report;
+    uint8_t number = (uint8_t) (answer < 0 ? -answer : FSQ_DONE);
+    memset(untouched, 0xA5, sizeof untouched);
+    memset(told, 0xA5, sizeof told);
+    memset(expected, 0xA5, sizeof expected);
+    if (answer > 0)
+        memcpy(expected, written, (size_t) answer);
+    memset(out, 0xA5, sizeof out);
+    check(fsq_convert_show(file, length, out, lent, &report) == answer && memcmp(out, expected, sizeof out) == 0, "by the inline function", line);
+    check(fsq_report_record(&report) == record && fsq_report_length(&report) == (answer > 0 ? (uint32_t) answer : 0), "length and record", line);
+    memset(out, 0xA5, sizeof out);
+    check(fsq_convert(file, length, out, lent, told, FSQ_REPORT_LENGTH - 1) == number && memcmp(told, untouched, sizeof told) == 0
+          && memcmp(out, expected, sizeof out) == 0, "without a whole report", line);
+    memset(out, 0xA5, sizeof out);
+    check(fsq_convert(file, length, out, lent, told, sizeof told) == number && memcmp(told, report.bytes, sizeof report) == 0 && told[FSQ_REPORT_LENGTH] == 0xA5
+          && memcmp(out, expected, sizeof out) == 0, "by the library", line);
+    memset(out, 0xA5, sizeof out);
+    check(fsq_convert_show(file, length, out, lent, NULL) == answer && memcmp(out, expected, sizeof out) == 0, "without a report", line);
+}
+
+/* Records become others, into room enough, just enough and a byte less. */
+static void become(uint16_t origin, const fsq_record_t *from, size_t count, const fsq_record_t *to, size_t many, int line) {
+    static uint8_t file[FSQ_CONVERTED_LENGTH], written[FSQ_CONVERTED_LENGTH];
+    size_t length = packed(file, origin, from, count), all = packed(written, origin, to, many);
+    converts(file, length, all, written, (int) all, FSQ_NO_RECORD, line);
+    converts(file, length, all + 60, written, (int) all, FSQ_NO_RECORD, line);
+    converts(file, length, all - 1, NULL, -FSQ_SLICE_TOO_SHORT, FSQ_NO_RECORD, line);
+    converts(file, length, 0, NULL, -FSQ_SLICE_TOO_SHORT, FSQ_NO_RECORD, line);
+}
+
+static void not_converted(uint16_t origin, const fsq_record_t *from, size_t count, int number, uint32_t record, int line) {
+    static uint8_t file[FSQ_CONVERTED_LENGTH];
+    size_t length = packed(file, origin, from, count);
+    converts(file, length, FSQ_CONVERTED_LENGTH, NULL, -number, record, line);
+    converts(file, length, 0, NULL, -number, record, line);
+}
+
+static fsq_record_t shift(enum fsq_operation operation, int32_t count) {
+    return fsq_record_with_span(fsq_two(operation, fsq_with_span(fsq_reg(FSQ_AX), 5, 7), fsq_with_span(fsq_imm(count), 8, 9)), 1, 9);
+}
+
+static fsq_record_t to(enum fsq_operation operation, int32_t target) {
+    return fsq_one(operation, fsq_imm(target));
+}
+
+/* REFERENCE 16, document 02, No. 12: SHL AX,3 is C1 E0 03 for the 186, each copy D1 E0. */
+static void conversions(void) {
+    static const enum fsq_operation shifts[] = {FSQ_ROL, FSQ_ROR, FSQ_RCL, FSQ_RCR, FSQ_SHL, FSQ_SHR, FSQ_SAR};
+    static const int32_t counts[] = {0, 32, -1, 33, 257, 65537, 2147483647, -2147483647 - 1};
+    static fsq_record_t from[1000], into[1000];
+    static uint8_t file[FSQ_CONVERTED_LENGTH + FSQ_RECORD_LENGTH], out[FSQ_CONVERTED_LENGTH];
+    fsq_record_t one = shift(FSQ_SHL, 1), hlt = fsq_none(FSQ_HLT);
+    fsq_report_t report;
+    size_t i, length;
+    int32_t n, k;
+    become(256, from, 0, into, 0, __LINE__);
+    for (i = 0; i < 7; i++)
+        for (n = 1; n <= 31; n++) {
+            from[0] = shift(shifts[i], n);
+            from[1] = to(FSQ_JE, n == 1 ? 258 : 259);
+            for (k = 0; k < n; k++)
+                into[k] = shift(shifts[i], 1);
+            into[n] = to(FSQ_JE, 256 + 2 * n);
+            become(256, from, 2, into, (size_t) n + 1, __LINE__);
+        }
+    /* The end, the shift itself, and a target behind the branch; E8 wraps, a distance byte does not; EB. */
+    into[0] = into[1] = into[2] = one;
+    from[0] = shift(FSQ_SHL, 3);
+    from[1] = to(FSQ_JE, 261);
+    into[3] = to(FSQ_JE, 264);
+    become(256, from, 2, into, 4, __LINE__);
+    from[1] = into[3] = to(FSQ_LOOP, 256);
+    become(256, from, 2, into, 4, __LINE__);
+    from[1] = fsq_one(FSQ_JMP, fsq_with_jump(fsq_imm(259), FSQ_SHORT));
+    into[3] = fsq_one(FSQ_JMP, fsq_with_jump(fsq_imm(262), FSQ_SHORT));
+    become(256, from, 2, into, 4, __LINE__);
+    from[0] = shift(FSQ_SHL, 2);
+    from[1] = from[2] = into[2] = into[3] = hlt;
+    from[3] = to(FSQ_CALL, 65535);
+    into[4] = to(FSQ_CALL, 0);
+    become(65531, from, 4, into, 5, __LINE__);
+    from[1] = to(FSQ_JE, 65536);
+    into[2] = to(FSQ_JE, 65537);
+    become(65531, from, 2, into, 3, __LINE__);
+    /* By CL, and a far target: copied. */
+    from[1] = into[2] = fsq_two(FSQ_SHL, fsq_reg(FSQ_AX), fsq_reg(FSQ_CL));
+    from[2] = into[3] = fsq_one(FSQ_JMP, fsq_far(0, 257));
+    become(256, from, 3, into, 4, __LINE__);
+
+    /* The loader's refusals have the record of the written file. */
+    from[0] = shift(FSQ_SHL, 3);
+    from[1] = to(FSQ_JE, 65536);
+    not_converted(65531, from, 2, FSQ_RELATIVE_JUMP_OUT_OF_RANGE, 3, __LINE__);
+    length = packed(file, 65531, from, 2);
+    CHECK(fsq_convert_show(file, length, out, sizeof out, &report) == -6 && fsq_report_value(&report) == 65536);
+    from[0] = shift(FSQ_SHL, 2);
+    from[1] = fsq_one(FSQ_JMP, fsq_with_span(fsq_with_jump(fsq_imm(65535), FSQ_SHORT), 3, 8));
+    from[2] = from[3] = hlt;
+    not_converted(65529, from, 4, FSQ_IMMEDIATE_OUT_OF_RANGE, 2, __LINE__);
+    length = packed(file, 65529, from, 4);
+    CHECK(fsq_convert_show(file, length, out, sizeof out, &report) == -5 && fsq_report_value(&report) == 65536 && fsq_report_low(&report) == 0);
+    CHECK(fsq_report_high(&report) == 65535 && fsq_report_span_start(&report) == 3 && fsq_report_span_end(&report) == 8);
+
+    /* 24, whatever else the record is, and 25, without a span. */
+    from[0] = from[1] = hlt;
+    for (i = 0; i < sizeof counts / sizeof *counts; i++) {
+        from[2] = fsq_record_with_span(fsq_two(FSQ_RCL, fsq_with_span(fsq_reg(FSQ_BL), 4, 6), fsq_with_span(fsq_imm(counts[i]), 7, 9)), 0, 9);
+        not_converted(0, from, 3, FSQ_SHIFT_COUNT_OUT_OF_RANGE, 2, __LINE__);
+    }
+    length = packed(file, 0, from, 3);
+    CHECK(fsq_convert_show(file, length, out, sizeof out, &report) == -24 && fsq_report_span_start(&report) == 0 && fsq_report_span_end(&report) == 0);
+    CHECK(fsq_report_value(&report) == 0 && fsq_report_low(&report) == 0 && fsq_report_high(&report) == 0);
+    from[2] = fsq_one(FSQ_SHL, fsq_reg(FSQ_AX));
+    not_converted(0, from, 3, FSQ_SHIFT_COUNT_OUT_OF_RANGE, 2, __LINE__);
+    from[2] = shift(FSQ_SAR, 3);
+    from[3] = fsq_record_with_span(to(FSQ_JE, 3), 11, 15);
+    not_converted(0, from, 4, FSQ_NO_RECORD_AT_TARGET, 3, __LINE__);
+    length = packed(file, 0, from, 4);
+    CHECK(fsq_convert_show(file, length, out, sizeof out, &report) == -25 && fsq_report_span_start(&report) == 0 && fsq_report_span_end(&report) == 0);
+    /* Each before the next: 15, 24, the record's own, 25. */
+    from[1] = fsq_none(FSQ_INT1);
+    not_converted(0, from, 4, FSQ_NOT_SUPPORTED, 1, __LINE__);
+    from[2] = shift(FSQ_SAR, 40);
+    not_converted(0, from, 4, FSQ_SHIFT_COUNT_OUT_OF_RANGE, 2, __LINE__);
+    from[3].bytes[FSQ_FIRST_AT + (size_t) FSQ_KIND_AT] = 4;
+    not_converted(0, from, 4, FSQ_UNKNOWN_CODE, 3, __LINE__);
+
+    /* The file itself; a count of 1,000, and 1,001 records to write. */
+    length = packed(file, 0, from, 4);
+    for (n = 0; n < 9; n++)
+        converts(file, (size_t) n, FSQ_CONVERTED_LENGTH, NULL, n < 3 ? -FSQ_NO_MARK : -FSQ_WRONG_LENGTH, FSQ_NO_RECORD, __LINE__);
+    converts(file, length - 1, FSQ_CONVERTED_LENGTH, NULL, -FSQ_WRONG_LENGTH, FSQ_NO_RECORD, __LINE__);
+    converts(file, length + 1, FSQ_CONVERTED_LENGTH, NULL, -FSQ_WRONG_LENGTH, FSQ_NO_RECORD, __LINE__);
+    for (n = 0; n < 5; n++)
+        if (n != 1) {
+            fsq_put_u16(file + FSQ_HEADER_VERSION_AT, (uint16_t) n);
+            converts(file, length, FSQ_CONVERTED_LENGTH, NULL, -FSQ_WRONG_VERSION, FSQ_NO_RECORD, __LINE__);
+            converts(file, length + 1, 0, NULL, -FSQ_WRONG_VERSION, FSQ_NO_RECORD, __LINE__);
+        }
+    for (i = 0; i < 1000; i++) {
+        from[i] = i < 32 ? shift(FSQ_SHL, 31) : hlt;
+        into[i] = i < 992 ? one : hlt;
+    }
+    become(0, from, 40, into, 1000, __LINE__);
+    not_converted(0, from, 41, FSQ_WRONG_LENGTH, FSQ_NO_RECORD, __LINE__);
+    for (i = 0; i < 1000; i++)
+        from[i] = into[i] = to(FSQ_CALL, 0);
+    become(0, from, 1000, into, 1000, __LINE__);
+    length = packed(file, 0, from, 1000);
+    memcpy(file + length, hlt.bytes, FSQ_RECORD_LENGTH);
+    fsq_put_u16(file + FSQ_HEADER_COUNT_AT, 1001);
+    converts(file, length + FSQ_RECORD_LENGTH, FSQ_CONVERTED_LENGTH, NULL, -FSQ_WRONG_LENGTH, FSQ_NO_RECORD, __LINE__);
+
+    /* A null file is an empty one, a null slice has no byte, whatever length comes with them. */
+    CHECK(fsq_convert_show(NULL, 0, out, sizeof out, &report) == -FSQ_NO_MARK && fsq_report_record(&report) == FSQ_NO_RECORD);
+    CHECK(fsq_convert_show(NULL, 65, NULL, 65, NULL) == -FSQ_NO_MARK);
+    length = packed(file, 0, &hlt, 1);
+    CHECK(fsq_convert_show(file, length, NULL, 0, &report) == -FSQ_SLICE_TOO_SHORT && fsq_convert_show(file, length, NULL, 65, NULL) == -FSQ_SLICE_TOO_SHORT);
+    CHECK(fsq_report_span_end(&report) == 0 && fsq_report_record(&report) == FSQ_NO_RECORD);
+    CHECK(FSQ_SHIFT_COUNT_OUT_OF_RANGE == 24 && FSQ_NO_RECORD_AT_TARGET == 25 && FSQ_CONVERTED_LENGTH == 56009);
+}
+
 static void names(void) {
     static const char *const sentences[] = {
         "Nothing is refused.",
@@ -1406,7 +1582,7 @@ static void names(void) {
         "No instruction begins with these bytes.",
         "The bytes are the front of an instruction, and more are needed.",
         "The file does not begin with \"FSQ\".",
-        "The file's version is not 1, 2 or 3.",
+        "The file's version is not 1, 2 or 3, or not 1 where a show is converted.",
         "The file is not as long as its count says, its version does not take this count, or a record has not 56 or 57 bytes.",
         "A record has an operation, kind, size or jump kind that does not exist.",
         "The text is not a sum of decimal numbers, + - * / and brackets, without blanks.",
@@ -1416,7 +1592,9 @@ static void names(void) {
         "A cue has a delay of 0.",
         "The next bytes inside the image are no instruction that a run carries out.",
         "The whole budget is carried out, and HLT was not met.",
-        "The repeat is neither REP nor REPNE, or the operation takes none."
+        "The repeat is neither REP nor REPNE, or the operation takes none.",
+        "A shift or rotate has an immediate count outside 1 to 31.",
+        "A branch goes to where no record stood, and not to the end of the show."
     };
     int number = 0, i;
     REFUSAL(DONE); REFUSAL(INVALID_OPERANDS); REFUSAL(OPERAND_SIZE_NOT_SPECIFIED); REFUSAL(OPERAND_SIZES_DO_NOT_MATCH);
@@ -1424,17 +1602,18 @@ static void names(void) {
     REFUSAL(NOT_WELL_FORMED); REFUSAL(SLICE_TOO_SHORT); REFUSAL(NOT_AN_INSTRUCTION); REFUSAL(NOT_COMPLETE); REFUSAL(NO_MARK);
     REFUSAL(WRONG_VERSION); REFUSAL(WRONG_LENGTH); REFUSAL(UNKNOWN_CODE); REFUSAL(NOT_A_SUM); REFUSAL(TOO_DEEP); REFUSAL(VALUE_OUT_OF_RANGE);
     REFUSAL(NOT_A_CUE_LIST); REFUSAL(NO_DELAY); REFUSAL(NOT_CARRIED_OUT); REFUSAL(BUDGET_SPENT); REFUSAL(INVALID_REPEAT);
+    REFUSAL(SHIFT_COUNT_OUT_OF_RANGE); REFUSAL(NO_RECORD_AT_TARGET);
     CHECK(strcmp(fsq_refusal_name(7), "DONE") == 0 && strcmp(fsq_refusal_name(56000), "DONE") == 0);
     CHECK(FSQ_NOT_A_SUM == 16 && FSQ_TOO_DEEP == 17 && FSQ_VALUE_OUT_OF_RANGE == 18 && FSQ_NOT_A_CUE_LIST == 19 && FSQ_NO_DELAY == 20);
-    for (i = 0; i <= 23; i++)
+    for (i = 0; i <= 25; i++)
         CHECK(strcmp(fsq_refusal_sentence(-i), sentences[i]) == 0);
-    /* Nothing is above 23. */
-    for (i = 24; i <= 260; i++) {
+    /* Nothing is above 25. */
+    for (i = 26; i <= 260; i++) {
         CHECK(strcmp(fsq_refusal_name(-i), "UNKNOWN") == 0);
         CHECK(strcmp(fsq_refusal_sentence(-i), "This header does not know the refusal.") == 0);
     }
     CHECK(strcmp(fsq_refusal_name(-2147483647 - 1), "UNKNOWN") == 0);
-    CHECK(fsq_refusal_sentence(7) == fsq_refusal_sentence(0) && fsq_refusal_sentence(-2147483647 - 1) == fsq_refusal_sentence(-24));
+    CHECK(fsq_refusal_sentence(7) == fsq_refusal_sentence(0) && fsq_refusal_sentence(-2147483647 - 1) == fsq_refusal_sentence(-26));
 #include "operations.h"
     CHECK(number == 99);
     for (i = LEAST; i <= OPERATIONS; i++)
@@ -1458,6 +1637,7 @@ int main(void) {
     sums();
     cues();
     runs();
+    conversions();
     names();
     printf("header: %d checks, %d failed\n", checks, failures);
     return failures != 0;

@@ -87,6 +87,7 @@ uint8_t __real_fsq_read(const uint8_t *, size_t, uint16_t, uint8_t *, size_t);
 uint8_t __real_fsq_load(const uint8_t *, size_t, uint8_t *, size_t, uint8_t *, size_t);
 uint8_t __real_fsq_evaluate(const uint8_t *, size_t, uint8_t *, size_t);
 uint8_t __real_fsq_cue(const uint8_t *, size_t, uint8_t *, size_t, uint8_t *, size_t);
+uint8_t __real_fsq_convert(const uint8_t *, size_t, uint8_t *, size_t, uint8_t *, size_t);
 uint8_t __real_fsq_run(const uint8_t *, size_t, uint32_t, uint8_t *, size_t, uint8_t *, size_t);
 uint8_t __wrap_fsq_encode(const uint8_t *, size_t, uint16_t, uint8_t *, size_t, uint8_t *, size_t);
 uint8_t __wrap_fsq_shortest(const uint8_t *, size_t, uint16_t, uint8_t *, size_t, uint8_t *, size_t);
@@ -96,6 +97,7 @@ uint8_t __wrap_fsq_read(const uint8_t *, size_t, uint16_t, uint8_t *, size_t);
 uint8_t __wrap_fsq_load(const uint8_t *, size_t, uint8_t *, size_t, uint8_t *, size_t);
 uint8_t __wrap_fsq_evaluate(const uint8_t *, size_t, uint8_t *, size_t);
 uint8_t __wrap_fsq_cue(const uint8_t *, size_t, uint8_t *, size_t, uint8_t *, size_t);
+uint8_t __wrap_fsq_convert(const uint8_t *, size_t, uint8_t *, size_t, uint8_t *, size_t);
 uint8_t __wrap_fsq_run(const uint8_t *, size_t, uint32_t, uint8_t *, size_t, uint8_t *, size_t);
 
 uint8_t __wrap_fsq_encode(const uint8_t *record, size_t n, uint16_t offset, uint8_t *o, size_t m, uint8_t *r, size_t k) {
@@ -143,15 +145,20 @@ uint8_t __wrap_fsq_run(const uint8_t *image, size_t n, uint32_t budget, uint8_t 
     return __real_fsq_run(image, n, budget, log, m, o, k);
 }
 
-enum function { ENCODE, LIST, READ, LOAD, FORM, EVALUATE, SHORTEST, CUE };
+uint8_t __wrap_fsq_convert(const uint8_t *file, size_t n, uint8_t *to, size_t m, uint8_t *r, size_t k) {
+    handed("fsq_convert", file, n, to, m, r);
+    return __real_fsq_convert(file, n, to, m, r, k);
+}
+
+enum function { ENCODE, LIST, READ, LOAD, FORM, EVALUATE, SHORTEST, CUE, CONVERT };
 
 /* The bytes that one of what a function counts has. */
-static const size_t each[] = {1, FSQ_ENTRY_LENGTH, 0, 1, 1, 0, 1, 1};
+static const size_t each[] = {1, FSQ_ENTRY_LENGTH, 0, 1, 1, 0, 1, 1, 1};
 
 /* One call. `bytes` is what it reads; the answer is compared with `first`, the one that a whole report came with, where that is not negative. */
 static int call(enum function function, const uint8_t *bytes, size_t length, uint16_t offset, size_t out_len, size_t report_len, int first) {
-    static const char *names[] = {"fsq_encode", "fsq_list", "fsq_read", "fsq_load", "fsq_form", "fsq_evaluate", "fsq_shortest", "fsq_cue"};
-    room to = function == LOAD ? image : out;
+    static const char *names[] = {"fsq_encode", "fsq_list", "fsq_read", "fsq_load", "fsq_form", "fsq_evaluate", "fsq_shortest", "fsq_cue", "fsq_convert"};
+    room to = function == LOAD ? image : function == CONVERT ? whole : out;
     uint8_t *o = lend(to, out_len), *r = lend(report, report_len);
     const char *wrong = NULL;
     size_t written = 0;
@@ -162,6 +169,7 @@ static int call(enum function function, const uint8_t *bytes, size_t length, uin
         : function == READ ? fsq_read(bytes, length, offset, o, out_len)
         : function == EVALUATE ? fsq_evaluate(bytes, length, r, report_len)
         : function == CUE ? fsq_cue(bytes, length, o, out_len, r, report_len)
+        : function == CONVERT ? fsq_convert(bytes, length, o, out_len, r, report_len)
         : fsq_load(bytes, length, o, out_len, r, report_len);
     int reported = function != READ && report_len >= FSQ_REPORT_LENGTH;
     calls++;
@@ -198,12 +206,12 @@ static void call_all(enum function function, const uint8_t *bytes, size_t length
 /* Which of three inline functions takes a record: that of its type, by its length, or that of bytes. */
 enum taken { BYTES, RECORD = FSQ_RECORD_LENGTH, REPEAT = FSQ_REPEAT_RECORD_LENGTH };
 
-/* An inline function beside the library's. `out_len` is that of ENCODE, SHORTEST and LOAD; the others write a struct. Null are, by the bits of `nulls`, what is
+/* An inline function beside the library's. `out_len` is that of ENCODE, SHORTEST, LOAD and CONVERT; the others write a struct. Null are, by the bits of `nulls`, what is
  * read (with its length), what is written (with its length) and the report. */
 static void call_inline(enum function function, enum taken by, const uint8_t *bytes, size_t length, uint16_t offset, size_t out_len, unsigned nulls) {
-    static const char *names[] = {"fsq_encode_at", "fsq_list_at", "fsq_read_at", "fsq_load_show", "fsq_form_at", "", "fsq_shortest_at"};
-    static uint8_t right[IMAGE];
-    room to = function == LOAD ? image : out;
+    static const char *names[] = {"fsq_encode_at", "fsq_list_at", "fsq_read_at", "fsq_load_show", "fsq_form_at", "", "fsq_shortest_at", "", "fsq_convert_show"};
+    static uint8_t right[WHOLE];
+    room to = function == LOAD ? image : function == CONVERT ? whole : out;
     uint8_t right_report[FSQ_REPORT_LENGTH] = {0}, number;
     size_t size = function == LIST ? sizeof(fsq_list_t) : function == READ ? FSQ_READING_LENGTH : function == FORM ? sizeof(fsq_line_t) : out_len, written;
     size_t given = nulls & 1u ? 0 : length;
@@ -219,6 +227,7 @@ static void call_inline(enum function function, enum taken by, const uint8_t *by
         : function == LIST ? fsq_list(bytes, given, offset, right, lent, right_report, sizeof right_report)
         : function == FORM ? fsq_form(bytes, given, offset, right, lent, right_report, sizeof right_report)
         : function == READ ? fsq_read(bytes, given, offset, right, lent)
+        : function == CONVERT ? fsq_convert(bytes, given, right, lent, right_report, sizeof right_report)
         : fsq_load(bytes, given, right, lent, right_report, sizeof right_report);
     answer = function == ENCODE && by == RECORD ? fsq_encode_at((const fsq_record_t *) from, offset, o, out_len, r)
         : function == ENCODE && by == REPEAT ? fsq_encode_repeat_at((const fsq_repeat_record_t *) from, offset, o, out_len, r)
@@ -233,6 +242,7 @@ static void call_inline(enum function function, enum taken by, const uint8_t *by
         : function == FORM && by == REPEAT ? fsq_form_repeat_at((const fsq_repeat_record_t *) from, offset, (fsq_line_t *) o, r)
         : function == FORM ? fsq_form_bytes_at(from, length, offset, (fsq_line_t *) o, r)
         : function == READ ? fsq_read_at(from, length, offset, (fsq_reading_t *) o)
+        : function == CONVERT ? fsq_convert_show(from, length, o, out_len, r)
         : fsq_load_show(from, length, o, out_len, r);
     calls++;
     refusals += number != FSQ_DONE;
@@ -378,6 +388,37 @@ static void compile_all(void) {
                 for (unsigned nulls = 0; nulls < 4; nulls++)
                     call_compile(at, length, out_len, nulls);
             }
+}
+
+/* A show of shifts by 1 to 31 and of branches, now and then with a count, a code or a target that is refused, into a slice around the written file's length. */
+static void convert_all(void) {
+    static const size_t counts[] = {0, 1, 2, 5, 40, 1000};
+    static uint8_t file[FSQ_HEADER_LENGTH + 1000 * FSQ_RECORD_LENGTH];
+    for (size_t i = 0; i < sizeof counts / sizeof *counts; i++)
+        for (int change = 0; change < 24; change++) {
+            size_t length = FSQ_HEADER_LENGTH + counts[i] * FSQ_RECORD_LENGTH, written = length;
+            const uint8_t *at;
+            fsq_write_header(file, sizeof file, (uint16_t) below(65536), (uint16_t) counts[i]);
+            for (uint16_t k = 0; k < counts[i]; k++) {
+                uint32_t many = change % 4 == 0 ? 1 + below(31) : 1 + below(2);
+                fsq_record_t record = below(3) == 0 ? fsq_none(FSQ_HLT)
+                    : below(4) == 0 ? fsq_one(FSQ_CALL, fsq_imm(fsq_get_u16(file + FSQ_HEADER_ORIGIN_AT)))
+                    : fsq_two((enum fsq_operation) (FSQ_SHL + below(7)), fsq_reg(FSQ_BX), fsq_imm((int32_t) many));
+                if (record.bytes[FSQ_OPERATION_AT] >= FSQ_SHL && record.bytes[FSQ_OPERATION_AT] <= FSQ_RCR)
+                    written += (many - 1) * FSQ_RECORD_LENGTH;
+                if (change % 8 == 7 && k == below((uint32_t) counts[i]))
+                    record.bytes[below(FSQ_RECORD_LENGTH)] ^= (uint8_t) (1u << below(8));
+                fsq_write_record(file, sizeof file, k, &record);
+            }
+            if (change % 6 == 5)
+                length = below((uint32_t) length + 1);
+            at = lend_in(file, length, 0);
+            for (size_t more = 0; more < 4; more++) {
+                size_t out_len = more == 3 || written > FSQ_CONVERTED_LENGTH ? below(FSQ_CONVERTED_LENGTH + 1) : written + more - 1;
+                call_all(CONVERT, at, length, out_len);
+                call_inline_all(CONVERT, BYTES, at, length, out_len);
+            }
+        }
 }
 
 /* A run; the answer is compared with `first`, the one that a whole result came with, where that is not negative. */
@@ -586,6 +627,7 @@ int main(int argc, char **argv) {
     for (size_t i = 0; i < sizeof sums / sizeof *sums && count <= FSQ_SHORT_RECORDS; i++)
         evaluate_all(sums[i]);
     compile_all();
+    convert_all();
     for (size_t i = 0; i < 3 && count <= FSQ_SHORT_RECORDS; i++)
         run_all(images[i], sizeof images[i]);
     for (int with = 0; with < 2; with++) {

@@ -41,6 +41,17 @@ pub fn low_word(value: i32) -> u16
     }
 }
 
+// `value as u32`: the value modulo 2^32.
+pub fn bits_of(value: i32) -> u32
+    ensures { λ r. ⌜ r ≡ modZ 4294967296 value ⌝ }
+{
+    if value < 0 {
+        4294967295 - (-1 - value) as u32
+    } else {
+        value as u32
+    }
+}
+
 // The value without its sign.
 pub fn magnitude(value: i32) -> u32
     ensures { λ r. ⌜ r ≡ natAbs value ⌝ }

@@ -1,4 +1,5 @@
--- What crosses, byte by byte: reports of the loader's answers, of the lister's refusals, of sums and of cues, and a read instruction with each extension and kind of operand.
+-- What crosses, byte by byte: reports of the loader's answers, of the converter's and of the lister's refusals, of sums and of cues, the result of a run, and a read instruction with each
+-- extension and kind of operand.
 -- Assumes nothing.
 use mathlib.Core.Path.{_≡_, refl}
 use mathlib.Core.Bool.{true}
@@ -42,6 +43,11 @@ use Rattle.foreign.specs.ListRecord.{responseListing}
 use Rattle.foreign.specs.ShortestRecord.{responseShortest}
 use Rattle.shortest_encoder.specs.Shortest.{shortestAnswer}
 use Rattle.foreign.specs.LoadShow.{responseLoadError, responseLoaded}
+use Rattle.foreign.specs.ConvertShow.{responseConvertError, responseConverted}
+use Rattle.convert_spec.specs.declared.ConvertError.{ConvertError}
+use Rattle.convert_spec.specs.declared.ConvertError.the-variants as Ce
+use Rattle.convert_spec.specs.declared.Converted.the-variants as Cv
+use Rattle.convert_spec.specs.Refusals as Convert
 use Rattle.foreign.specs.ReadBytes.{operandHead, operandValues, readBytes}
 use Rattle.desk_run.specs.declared.Ran.the-variants as D
 use Rattle.desk_run.specs.declared.RunError.the-variants as N
@@ -65,6 +71,37 @@ its-number R.WrongVersion = refl
 its-number R.WrongLength = refl
 its-number (R.UnknownCode k) = refl
 its-number (R.Record k e) = refl
+
+-- ---- the converter's answers
+record Conversions : Type 0 where
+  file : reportBytes (responseConverted (Cv.File 56009)) ≡ (0xC9 ∷ 0xDA ∷ 0 ∷ 0 ∷ []) ++ (zeros4 ++ (zeros4 ++ (zeros12 ++ ones4)))
+  of-load : reportBytes (responseConverted (Cv.Refused (Ce.Load (R.UnknownCode 999)))) ≡ zeros12 ++ (zeros12 ++ (0xE7 ∷ 3 ∷ 0 ∷ 0 ∷ []))
+  miscounted : responseConverted (Cv.Refused (Ce.ShiftCountOutOfRange 999)) .number ≡ 24
+  miscounted-report : reportBytes (responseConverted (Cv.Refused (Ce.ShiftCountOutOfRange 999))) ≡ zeros12 ++ (zeros12 ++ (0xE7 ∷ 3 ∷ 0 ∷ 0 ∷ []))
+  no-record : responseConverted (Cv.Refused (Ce.NoRecordAtTarget 1)) .number ≡ 25
+  no-record-report : reportBytes (responseConverted (Cv.Refused (Ce.NoRecordAtTarget 1))) ≡ zeros12 ++ (zeros12 ++ (1 ∷ 0 ∷ 0 ∷ 0 ∷ []))
+  too-short : responseConverted (Cv.Refused Ce.SliceTooShort) .number ≡ 9
+  too-short-report : reportBytes (responseConverted (Cv.Refused Ce.SliceTooShort)) ≡ zeros12 ++ (zeros12 ++ ones4)
+
+conversions : Conversions
+unfolding u32Bytes
+conversions = record {
+  file = refl;
+  of-load = refl;
+  miscounted = refl;
+  miscounted-report = refl;
+  no-record = refl;
+  no-record-report = refl;
+  too-short = refl;
+  too-short-report = refl;
+}
+
+-- its number is the converter's
+convert-number : (e : ConvertError) → responseConvertError e .number ≡ Convert.numberOf e
+convert-number (Ce.Load e) = its-number e
+convert-number (Ce.ShiftCountOutOfRange k) = refl
+convert-number (Ce.NoRecordAtTarget k) = refl
+convert-number Ce.SliceTooShort = refl
 
 -- ---- a record's own refusals, in fsq_encode, fsq_shortest and fsq_list
 -- an operation without operands, with the span of the rows above

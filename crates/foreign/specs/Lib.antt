@@ -4,6 +4,7 @@ pub mod ShortestRecord
 pub mod EvaluateText
 pub mod ListRecord
 pub mod LoadShow
+pub mod ConvertShow
 pub mod ReadBytes
 pub mod RunImage
 pub mod FormRecord

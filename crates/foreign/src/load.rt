@@ -14,7 +14,7 @@ use show_file::LoadError;
 use show_load::Loaded;
 
 // A refusal of the loader.
-fn response_load_error(error: LoadError) -> Response
+pub fn response_load_error(error: LoadError) -> Response
     ensures { λ r. ⌜ r ≡ responseLoadError error ⌝ }
 {
     match error {

@@ -2,19 +2,12 @@
 -- Assumes nothing.
 use mathlib.Core.Path.{_≡_, refl}
 use mathlib.Core.List.{List, [], _∷_, _++_}
-use Prim.Native.Nat.{ℕ, suc, _+_, _-_, _≤_}
+use Prim.Native.Nat.{ℕ, suc, _+_, _≤_}
 use native.Mathlib.Omega.{arith}
-use mathlib.Core.Bool.{true, false}
-use lib.IntN.{ℤ, pos, negsuc, natAbs, _-ℤ_}
-use lib.Signed.{ltZ}
 use lib.ListN.{length, drop, set}
 use lib.Seq.{sets, sets-eq}
-use mir.Syntax.{w32}
-use mir.Val.{SFits, toZ, ofZ}
-use Rattle.mrc_compiler.specs.Values.{modZ}
 use Rattle.foreign_report.specs.declared.Response.{Response}
 use Rattle.foreign_report.specs.Crossing.{u32Bytes, bits, threeBytes, reportAfter}
-use Rattle.base_values.proofs.Laws.{flip-cast, keep-cast, low-negative, low-from-zero}
 use borrow.Author.Tests.{le-leb}
 
 -- ---- bytes one behind the other
@@ -56,18 +49,3 @@ pub reported : (t : Response) (s l m n : List ℕ) → 28 ≤ length s → l ≡
 reported t s l m n h d e f =
     rw (le-leb 28 (length s) h)
     (seven (t .length) (t .span .start) (t .span .end) (bits (t .value)) (bits (t .low)) (bits (t .high)) (t .«record») s l m n h d e f)
-
--- ---- bits_of: what the code subtracts or keeps is below 2^32
-module _ (z : ℤ) (f : SFits w32 z) (t : ltZ (toZ w32 (ofZ w32 z)) (pos 0) ≡ true) where
-  abbrev flipped : ℕ
-  flipped = natAbs (toZ w32 (ofZ w32 (negsuc 0 -ℤ toZ w32 (ofZ w32 z))))
-
-  pub below : flipped ≤ 4294967295
-  below = let h = flip-cast z f t .1 .fits in omega arith
-
-  pub bits-negative : 4294967295 - flipped ≡ modZ 4294967296 z
-  bits-negative = let h = flip-cast z f t .1 .fits in let e = low-negative z f t 4294967296 in omega arith
-
-module _ (z : ℤ) (f : SFits w32 z) (t : ltZ (toZ w32 (ofZ w32 z)) (pos 0) ≡ false) where
-  pub bits-from-zero : natAbs (toZ w32 (ofZ w32 z)) ≡ modZ 4294967296 z
-  bits-from-zero = let h = keep-cast z f t .1 .fits in let e = low-from-zero z f t 4294967296 in omega arith

@@ -3,7 +3,6 @@ ghost use mathlib.Core.Path.{_≡_};
 ghost use Prim.Native.Nat.{_+_, _≤_};
 ghost use lib.ListN.{length};
 ghost use lib.Seq.{sets};
-ghost use Rattle.mrc_compiler.specs.Values.{modZ};
 ghost use Rattle.foreign_report.specs.Crossing.{u32Bytes, threeBytes, responseLength, responseValue, responseAlone, responseSpan, responseRefusal, responseEncoded, ofRecord, reportAfter};
 use mrc_compiler::ast::Span;
 use mrc_compiler::encoder::EncodeError;
@@ -150,17 +149,6 @@ pub fn of_record(response: Response, k: usize) -> Response
     }
 }
 
-// `value as u32`: the value modulo 2^32.
-fn bits_of(value: i32) -> u32
-    ensures { λ r. ⌜ r ≡ modZ 4294967296 value ⌝ }
-{
-    if value < 0 {
-        4294967295 - (-1 - value) as u32
-    } else {
-        value as u32
-    }
-}
-
 // Writes a u32 at a place, low byte first.
 pub fn put_u32(report: &mut [u8], at: usize, n: u32)
     requires { ⌜ at + 4 ≤ length (now report) ⌝ }
@@ -190,9 +178,9 @@ pub fn write_report(response: Response, report: &mut [u8])
         return;
     }
     let span = response.span;
-    let value = bits_of(response.value);
-    let low = bits_of(response.low);
-    let high = bits_of(response.high);
+    let value = base_values::bits_of(response.value);
+    let low = base_values::bits_of(response.low);
+    let high = base_values::bits_of(response.high);
     put_three(report, 0, response.length, span.start, span.end);
     put_three(report, 12, value, low, high);
     put_u32(report, 24, response.record)

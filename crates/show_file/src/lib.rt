@@ -116,7 +116,7 @@ fn is_count(limit: u16, fewest: u16, most: u16, count: u16) -> bool
     count <= limit
 }
 
-fn has_mark(file: &[u8]) -> bool
+pub fn has_mark(file: &[u8]) -> bool
     ensures { λ r. ⌜ r ≡ hasMark (now (file .entry)) ⌝ }
 {
     if show_record::byte_at(file, 0) != 0x46 {

@@ -73,21 +73,23 @@ module _ (file : List ℕ) (h : Header) (n : ℕ) (image : List ℕ) where
       go true q = q
       go false q = absurd (refused-image q)
 
-  pub show-reads : loaded file (length image) ≡ L.Image h n → (starts : ℕ → ℕ) × Loaded2 file h n starts image (imageAfter file image)
-  show-reads q =
+  -- record k's bytes begin behind those of the records before it
+  pub reads-at : loaded file (length image) ≡ L.Image h n → Loaded2 file h n (λ k. length (bytesIn (walk file (h .origin) k))) image (imageAfter file image)
+  reads-at q =
       let a = accepted-image mostRecords file h n (fits (accepted mostRecords file) q) in
       let t = a .all-in in
       let o = h .origin in
       let c = h .count in
       let d = drop (length (w file o c t c)) image in
-      let after : imageAfter file image ≡ w file o c t c ++ d = rw q refl in (
-        λ k. length (w file o c t k),
-        record {
-          first = rw (← (upto-start file o .ends)) refl;
-          last = sym (a .size);
-          follows = λ k l. rw (next file o c t k l, length-append (w file o c t k) (own file o c t k l)) (omega (arith, own-reads file o c t k l .some));
-          whole = λ k l. rw (after, its-part file o c t k l d, next file o c t k l, length-append (w file o c t k) (own file o c t k l)) refl;
-          each-reads = λ k l. rw (after, its-part file o c t k l d) (own-reads file o c t k l .reads-it);
-          rest = rw (after, a .size) (drop-append-seam (w file o c t c) d);
-        },
-      )
+      let after : imageAfter file image ≡ w file o c t c ++ d = rw q refl in
+      record {
+        first = rw (← (upto-start file o .ends)) refl;
+        last = sym (a .size);
+        follows = λ k l. rw (next file o c t k l, length-append (w file o c t k) (own file o c t k l)) (omega (arith, own-reads file o c t k l .some));
+        whole = λ k l. rw (after, its-part file o c t k l d, next file o c t k l, length-append (w file o c t k) (own file o c t k l)) refl;
+        each-reads = λ k l. rw (after, its-part file o c t k l d) (own-reads file o c t k l .reads-it);
+        rest = rw (after, a .size) (drop-append-seam (w file o c t c) d);
+      }
+
+  pub show-reads : loaded file (length image) ≡ L.Image h n → (starts : ℕ → ℕ) × Loaded2 file h n starts image (imageAfter file image)
+  show-reads q = (λ k. length (bytesIn (walk file (h .origin) k)), reads-at q)

@@ -44,6 +44,7 @@ extern "C" {
     pub fn fsq_evaluate(text: *const u8, text_len: usize, report: *mut u8, report_len: usize) -> u8;
     pub fn fsq_cue(cues: *const u8, cues_len: usize, image: *mut u8, image_len: usize, report: *mut u8, report_len: usize) -> u8;
     pub fn fsq_run(image: *const u8, image_len: usize, budget: u32, log: *mut u8, log_len: usize, out: *mut u8, out_len: usize) -> u8;
+    pub fn fsq_convert(file: *const u8, file_len: usize, out: *mut u8, out_len: usize, report: *mut u8, report_len: usize) -> u8;
 }
 
 // enum fsq_answer
@@ -71,6 +72,8 @@ pub const FSQ_NO_DELAY: u8 = 20;
 pub const FSQ_NOT_CARRIED_OUT: u8 = 21;
 pub const FSQ_BUDGET_SPENT: u8 = 22;
 pub const FSQ_INVALID_REPEAT: u8 = 23;
+pub const FSQ_SHIFT_COUNT_OUT_OF_RANGE: u8 = 24;
+pub const FSQ_NO_RECORD_AT_TARGET: u8 = 25;
 
 // enum fsq_length
 pub const FSQ_RECORD_LENGTH: usize = 56;
@@ -87,6 +90,7 @@ pub const FSQ_HEADER_LENGTH: usize = 9;
 pub const FSQ_OPERAND_LENGTH: usize = 23;
 pub const FSQ_IMAGE_LENGTH: usize = 56000;
 pub const FSQ_FILE_LENGTH: usize = 456009;
+pub const FSQ_CONVERTED_LENGTH: usize = 56009;
 pub const FSQ_CUE_LENGTH: usize = 4;
 pub const FSQ_CUE_CODE_LENGTH: usize = 9;
 pub const FSQ_CUE_IMAGE_LENGTH: usize = 1801;

@@ -96,11 +96,13 @@
 //! # Ok::<(), fsq::Refusal>(())
 //! ```
 //!
+//! [`convert`] makes a show from a 186 module one that the 8086 runs; its shifts by a count become shifts by 1, and its branches keep their targets.
+//!
 //! The functions keep nothing between calls, and several threads may call them at once. They are proved; the text of instructions and operands
 //! is not.
 //!
-//! Without the feature `std`, which is on by default, the crate is `no_std` and allocates nothing: `load`, `show_file`, `Show::load` and `compile` are
-//! left out, and [`Show::load_into`] and [`compile_into`] write into a lent slice. The feature `alloc` has them without `std`.
+//! Without the feature `std`, which is on by default, the crate is `no_std` and allocates nothing: `load`, `show_file`, `Show::load`, `compile` and
+//! `convert` are left out, and [`Show::load_into`], [`compile_into`] and [`convert_into`] write into a lent slice. The feature `alloc` has them without `std`.
 
 #![no_std]
 #![deny(missing_docs)]
@@ -110,6 +112,7 @@
 extern crate alloc;
 
 mod bindings;
+mod convert;
 mod cue;
 mod encoding;
 mod form;
@@ -127,6 +130,9 @@ mod show;
 mod sum;
 mod text;
 
+#[cfg(feature = "alloc")]
+pub use convert::convert;
+pub use convert::convert_into;
 #[cfg(feature = "alloc")]
 pub use cue::compile;
 pub use cue::{compile_bytes, compile_into, Cue};

@@ -4,10 +4,10 @@
 //! functions write nothing outside of them, and only what a call's contract says.
 
 use crate::bindings::{
-    fsq_cue, fsq_encode, fsq_evaluate, fsq_form, fsq_list, fsq_load, fsq_read, fsq_run, fsq_shortest, FSQ_DONE, FSQ_FORM_LENGTH,
-    FSQ_HEADER_LENGTH, FSQ_INVALID_REPEAT, FSQ_NO_RECORD, FSQ_READING_LENGTH, FSQ_REPORT_HIGH_AT, FSQ_REPORT_LENGTH, FSQ_REPORT_LENGTH_AT,
-    FSQ_REPORT_LOW_AT, FSQ_REPORT_RECORD_AT, FSQ_REPORT_SPAN_END_AT, FSQ_REPORT_SPAN_START_AT, FSQ_REPORT_VALUE_AT, FSQ_RUN_COUNT_AT,
-    FSQ_RUN_LOG_LENGTH_AT, FSQ_RUN_RESULT_LENGTH, FSQ_SLICE_TOO_SHORT, FSQ_STRING_LENGTH,
+    fsq_convert, fsq_cue, fsq_encode, fsq_evaluate, fsq_form, fsq_list, fsq_load, fsq_read, fsq_run, fsq_shortest, FSQ_DONE,
+    FSQ_FORM_LENGTH, FSQ_HEADER_LENGTH, FSQ_INVALID_REPEAT, FSQ_NO_RECORD, FSQ_READING_LENGTH, FSQ_REPORT_HIGH_AT, FSQ_REPORT_LENGTH,
+    FSQ_REPORT_LENGTH_AT, FSQ_REPORT_LOW_AT, FSQ_REPORT_RECORD_AT, FSQ_REPORT_SPAN_END_AT, FSQ_REPORT_SPAN_START_AT, FSQ_REPORT_VALUE_AT,
+    FSQ_RUN_COUNT_AT, FSQ_RUN_LOG_LENGTH_AT, FSQ_RUN_RESULT_LENGTH, FSQ_SLICE_TOO_SHORT, FSQ_STRING_LENGTH,
 };
 use crate::refusal::{question_of, Found, Reason, Refusal};
 use crate::show::record_length;
@@ -82,9 +82,30 @@ pub fn load(file: &[u8], image: &mut [u8]) -> Result<usize, Refusal> {
     // SAFETY: as in encode.
     let number = unsafe { fsq_load(file.as_ptr(), file.len(), image.as_mut_ptr(), image.len(), report.as_mut_ptr(), report.len()) };
     answered(number, &report, |refusal| {
-        let at = |record: u32| FSQ_HEADER_LENGTH + record_length(file) * record as usize;
-        let record = refusal.record.and_then(|record| file.get(at(record)..at(record + 1)));
+        let record = record_of(&refusal, file);
         Refusal { found: Found::in_file(number, record, file), question: record.and_then(|record| question_of(number, record)), ..refusal }
+    })
+}
+
+/// The record that a refusal names, where the file has it.
+#[cold]
+fn record_of<'a>(refusal: &Refusal, file: &'a [u8]) -> Option<&'a [u8]> {
+    let at = |record: usize| FSQ_HEADER_LENGTH + record_length(file) * record;
+    refusal.record.and_then(|record| file.get(at(record as usize)..at(record as usize + 1)))
+}
+
+/// The number of bytes of the converted file at the front of out. Refusal 9 is no record's, and has no span.
+pub fn convert(file: &[u8], out: &mut [u8]) -> Result<usize, Refusal> {
+    let mut report = [0; FSQ_REPORT_LENGTH];
+    // SAFETY: as in encode.
+    let number = unsafe { fsq_convert(file.as_ptr(), file.len(), out.as_mut_ptr(), out.len(), report.as_mut_ptr(), report.len()) };
+    answered(number, &report, |refusal| {
+        if number == FSQ_SLICE_TOO_SHORT {
+            return Refusal { span: None, ..refusal };
+        }
+        // Of the loader's refusals, 5 and 6, the record is the converted file's: their question needs none.
+        let record = record_of(&refusal, file);
+        Refusal { found: Found::in_converted(number, record, file), question: question_of(number, record.unwrap_or_default()), ..refusal }
     })
 }
 

@@ -67,6 +67,10 @@ pub enum Reason {
     BudgetSpent,
     /// 23: the repeat is neither F2 nor F3, or the operation is no string operation and has one.
     InvalidRepeat,
+    /// 24: a shift or rotate of a show to [`convert`](crate::convert_into) has an immediate count outside 1 to 31.
+    ShiftCountOutOfRange,
+    /// 25: a branch of a show to convert goes to where no record stood, and not to its end.
+    NoRecordAtTarget,
     /// Another number: one that the library has and this crate does not know.
     Other(u8),
 }
@@ -77,6 +81,10 @@ pub enum Reason {
 pub enum Found {
     /// 13: the file's version
     Version(u16),
+    /// 13: the version of a file to convert, which is not 1
+    ConvertedVersion(u16),
+    /// 14: more than 1,000 records of the converted file
+    ConvertedCount,
     /// 14: the length of a record that has neither 56 bytes nor, with a repeat, 57
     RecordLength(usize),
     /// 14: the length of a file without a whole header, which has 9 bytes
@@ -142,6 +150,15 @@ impl Found {
         }
     }
 
+    /// What a file has that is not converted for the refusal with this number, at this record of it.
+    pub(crate) fn in_converted(number: u8, record: Option<&[u8]>, file: &[u8]) -> Option<Found> {
+        match Found::in_file(number, record, file) {
+            Some(Found::Version(version)) => Some(Found::ConvertedVersion(version)),
+            Some(Found::FileLength { length, expected }) if length == expected => Some(Found::ConvertedCount),
+            found => found,
+        }
+    }
+
     /// The first code of a record of 56 or 57 bytes that does not exist.
     pub(crate) fn unknown_code(record: &[u8]) -> Option<Found> {
         const OPERATION: (&str, usize, u8) = ("operation", FSQ_OPERATION_AT, Operation::ALL.len() as u8 - 1);
@@ -176,6 +193,10 @@ impl fmt::Display for Found {
             Found::Version(version) => {
                 write!(f, "the version of the show file is {version}, not {FSQ_FILE_VERSION}, {FSQ_LONG_VERSION} or {FSQ_REPEAT_VERSION}")
             }
+            Found::ConvertedVersion(version) => {
+                write!(f, "the version of the show file is {version}, and {FSQ_FILE_VERSION} alone is converted")
+            }
+            Found::ConvertedCount => write!(f, "the converted show file would have more than {FSQ_SHORT_RECORDS} records"),
             Found::RecordLength(length) => {
                 write!(f, "the record has {length} bytes, not {FSQ_RECORD_LENGTH} or {FSQ_REPEAT_RECORD_LENGTH}")
             }
@@ -197,7 +218,7 @@ pub struct Refusal {
     pub reason: Reason,
     /// The place in the source of the operand or the instruction, for the reasons 1 to 9 and 23.
     pub span: Option<Span>,
-    /// The record of the file, from 0.
+    /// The record of the file, from 0; of a refused [`convert`](crate::convert_into) it may be one of the converted file.
     pub record: Option<u32>,
     /// What the input has, for the reasons 13 to 15.
     pub found: Option<Found>,
@@ -245,7 +266,7 @@ pub(crate) fn question_of(number: u8, record: &[u8]) -> Option<u8> {
 }
 
 impl Reason {
-    /// The number: 1 to 20, 23, or another of a later library.
+    /// The number: 1 to 25, or another of a later library.
     pub fn number(&self) -> u8 {
         match self {
             Reason::InvalidOperands => FSQ_INVALID_OPERANDS,
@@ -271,6 +292,8 @@ impl Reason {
             Reason::NotCarriedOut => FSQ_NOT_CARRIED_OUT,
             Reason::BudgetSpent => FSQ_BUDGET_SPENT,
             Reason::InvalidRepeat => FSQ_INVALID_REPEAT,
+            Reason::ShiftCountOutOfRange => FSQ_SHIFT_COUNT_OUT_OF_RANGE,
+            Reason::NoRecordAtTarget => FSQ_NO_RECORD_AT_TARGET,
             Reason::Other(number) => *number,
         }
     }
@@ -301,6 +324,8 @@ impl Reason {
             FSQ_NOT_CARRIED_OUT => Reason::NotCarriedOut,
             FSQ_BUDGET_SPENT => Reason::BudgetSpent,
             FSQ_INVALID_REPEAT => Reason::InvalidRepeat,
+            FSQ_SHIFT_COUNT_OUT_OF_RANGE => Reason::ShiftCountOutOfRange,
+            FSQ_NO_RECORD_AT_TARGET => Reason::NoRecordAtTarget,
             other => Reason::Other(other),
         }
     }
@@ -336,6 +361,8 @@ impl fmt::Display for Reason {
             Reason::NotCarriedOut => f.write_str("the next bytes inside the image are no instruction that a run carries out"),
             Reason::BudgetSpent => f.write_str("the whole budget is carried out, and HLT was not met"),
             Reason::InvalidRepeat => f.write_str("the repeat is neither REP nor REPNE, or the operation takes none"),
+            Reason::ShiftCountOutOfRange => f.write_str("the immediate count of a shift or rotate is outside 1..31"),
+            Reason::NoRecordAtTarget => f.write_str("the branch goes to where no record stood, and not to the end of the show"),
             Reason::Other(number) => write!(f, "the reason {number}, which this crate does not know"),
         }
     }

@@ -1,7 +1,7 @@
-use Rattle.foreign_report.proofs.Laws.{bits-negative, bits-from-zero, below}
 use Rattle.base_values.proofs.Laws.{flip-fits, flip-cast, keep-cast}
-use Rattle.foreign_report.proofs.bits_of.Statement.{statement}
-use Rattle.foreign_report.proofs.bits_of.Tie as tie
+use Rattle.base_values.proofs.Bits.{below, bits-negative, bits-from-zero}
+use Rattle.base_values.proofs.bits_of.Statement.{statement}
+use Rattle.base_values.proofs.bits_of.Tie as tie
 
 pub bits-of-spec : {M : Type 1} → statement M
 bits-of-spec =

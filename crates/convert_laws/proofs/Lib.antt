@@ -1,0 +1,14 @@
+pub mod Chosen
+pub mod Branches
+pub mod Lengths
+pub mod Anywhere
+pub mod Fields
+pub mod Shown
+pub mod Written
+pub mod Ranges
+pub mod Walked
+pub mod Firsts
+pub mod Starts
+pub mod Opens
+pub mod Done
+pub mod Converts

@@ -1,0 +1,4 @@
+pub mod Branches
+pub mod NewRecords
+pub mod Converts
+pub mod Passed

@@ -1,0 +1,4 @@
+pub mod Named
+pub mod Turns
+pub mod Copies
+pub mod Rows

@@ -1,0 +1,4 @@
+pub mod Answers
+pub mod Writing
+pub mod Patched
+pub mod Fits
