@@ -90,6 +90,7 @@ fn measure(show: &Show, rounds: usize, warming: usize, timed: bool) -> Result<()
     }
     let of = |names: &[&str]| on(show, names);
     let one_by_one = clock(of(&["encode-rattle", "encode-rust", "encode-rust-alone"]), rounds, warming)?;
+    let plain = clock(of(&["encode-rust", "encode-plain"]), rounds, warming)?;
     let reads = clock(of(&["read-rattle", "read-zydis"]), rounds, warming)?;
     let lists = clock(of(&["list-rattle"]), rounds / 10 + 1, warming / 10)?;
     let shortest = clock(of(&["shortest-rattle"]), rounds / 10 + 1, warming / 10)?;
@@ -114,6 +115,9 @@ fn measure(show: &Show, rounds: usize, warming: usize, timed: bool) -> Result<()
     println!("{rounds} rounds, in brackets the 10th to the 90th percentile");
     both("encode", "/record", &one_by_one[0], "rust", &one_by_one[1]);
     println!("        rust encode alone {}/record, ratio {:.2}", one_by_one[2], one_by_one[0].over(&one_by_one[2]));
+    if let Some(ours) = plain.get(1) {
+        both("encode-plain", "/record", ours, "rust", &plain[0]);
+    }
     match reads.get(1) {
         Some(zydis) => both("read", "", &reads[0], "zydis", zydis),
         None => println!("read: rattle {}, zydis is not here", reads[0]),

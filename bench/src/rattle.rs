@@ -16,6 +16,19 @@ pub fn encode(record: &[u8], offset: u16, out: &mut [u8], report: &mut Report) -
     (number == FSQ_DONE).then(|| length(report))
 }
 
+#[cfg(plain)]
+extern "C" {
+    fn fsq_plain(rec: *const u8, rec_len: usize, offset: u16, out: *mut u8, out_len: usize, report: *mut u8, report_len: usize) -> u8;
+}
+
+/// The same by the plain encoder alone.
+#[cfg(plain)]
+#[inline]
+pub fn plain(record: &[u8], offset: u16, out: &mut [u8], report: &mut Report) -> Option<usize> {
+    let number = unsafe { fsq_plain(record.as_ptr(), record.len(), offset, out.as_mut_ptr(), out.len(), report.as_mut_ptr(), report.len()) };
+    (number == FSQ_DONE).then(|| length(report))
+}
+
 /// The same of the shortest string.
 #[inline]
 pub fn shortest(record: &[u8], offset: u16, out: &mut [u8], report: &mut Report) -> Option<usize> {

@@ -90,6 +90,8 @@ impl Turn for OnShow<'_> {
 
 const SIDES: &[Side] = &[
     Side { name: "encode-rattle", writes: Writes::Bytes, round: encode_rattle, answers: bytes },
+    #[cfg(plain)]
+    Side { name: "encode-plain", writes: Writes::Bytes, round: encode_plain, answers: bytes },
     Side { name: "encode-rust", writes: Writes::Bytes, round: encode_rust, answers: bytes },
     Side { name: "encode-rust-alone", writes: Writes::Bytes, round: encode_rust_alone, answers: bytes },
     Side { name: "read-rattle", writes: Writes::Lengths, round: read_rattle, answers: lengths },
@@ -128,6 +130,15 @@ fn encode_rattle(show: &Show, slots: &mut Slots) {
     let mut report: Report = [0; FSQ_REPORT_LENGTH];
     for (n, record) in show.records.iter().enumerate() {
         slots.lengths[n] = rattle::encode(record, show.offsets[n], &mut slots.bytes[n], &mut report).unwrap_or(0);
+    }
+}
+
+#[cfg(plain)]
+#[inline(never)]
+fn encode_plain(show: &Show, slots: &mut Slots) {
+    let mut report: Report = [0; FSQ_REPORT_LENGTH];
+    for (n, record) in show.records.iter().enumerate() {
+        slots.lengths[n] = rattle::plain(record, show.offsets[n], &mut slots.bytes[n], &mut report).unwrap_or(0);
     }
 }
 

@@ -15,12 +15,10 @@ use Rattle.mrc_compiler.specs.Choose.{pick, byKind}
 use Rattle.encode_spec.specs.Records.{dst, src}
 use Rattle.encode_spec.specs.Answer.{Answer, bytes, refused, answer}
 use Rattle.encode_spec.proofs.Values.{false-true}
-use Rattle.encode_run.specs.Run.{emptyRun}
-use Rattle.encode_codes.specs.Emit.{emitted}
 use Rattle.show_file.specs.declared.Header.{Header}
 use Rattle.show_file.specs.Show.{insnAt}
 use Rattle.show_load.specs.Loading.{offsetBehind, answerAt, bytesOf, walk, stopped}
-use Rattle.show_load.proofs.Laws.{Upto, step-none, step-refused}
+use Rattle.show_load.proofs.Laws.{Upto, step-bytes, step-stops}
 use Rattle.shift_copies.specs.Shifting.{isShift}
 use Rattle.convert_spec.specs.Counts.{hasCount, countOf, times, withImm, withOperands, byOne}
 use Rattle.convert_spec.specs.OldStarts.{firstCopy}
@@ -34,14 +32,8 @@ use Rattle.convert_laws.proofs.Written.{copies-next, copies-below, insn
 use Rattle.convert_laws.proofs.Ranges.{times-within, new-imm-fits}
 
 -- ---- a step by its answer
-step-bytes : (file : List ℕ) (origin k at : ℕ) → Upto file origin k at → (cs : List ℕ) → answerAt file origin k at ≡ bytes cs → Upto file origin (k + 1) (at + length cs)
-step-bytes file origin k at u cs e =
-    let s = step-none file origin k at u (emitted emptyRun (answerAt file origin k at)) refl (ap (λ (a : Answer). emitted emptyRun a .refusal) e) in
-    rw e at (s .upto)
-
-step-stops : (file : List ℕ) (origin k at : ℕ) → Upto file origin k at → (e : EncodeError) → answerAt file origin k at ≡ refused e → (n : ℕ) → k < n → walk file origin n ≡ stopped k e
-step-stops file origin k at u x e n h =
-    step-refused file origin k at u (emitted emptyRun (answerAt file origin k at)) refl x (ap (λ (a : Answer). emitted emptyRun a .refusal) e) n h
+upto-bytes : (file : List ℕ) (origin k at : ℕ) → Upto file origin k at → (cs : List ℕ) → answerAt file origin k at ≡ bytes cs → Upto file origin (k + 1) (at + length cs)
+upto-bytes file origin k at u cs e = rw e at (step-bytes file origin k at u cs e .upto)
 
 -- ---- a record that becomes more than one is a shift
 many-counted : (insn : InstructionData) → 1 < times insn → hasCount insn ≡ true
@@ -139,7 +131,7 @@ module _ (file : List ℕ) (h : Header) (x : Show1 file h) (c : Convertible file
             let a : answerAt W origin j (at + i * length cs) ≡ bytes cs = ap (λ (y : InstructionData). answer y (offsetBehind origin (at + i * length cs))) (copied i g) ∙ copy-answer i g in
             let z : firstCopy file k + suc i ≡ j + 1 = omega arith in
             let w : at + suc i * length cs ≡ at + i * length cs + length cs = omega arith in
-            rw (z, w) (step-bytes W origin j (at + i * length cs) v cs a)
+            rw (z, w) (upto-bytes W origin j (at + i * length cs) v cs a)
 
         pub walk-on : Upto W origin (firstCopy file (suc k)) (at + times insn * length cs)
         walk-on = rw (copies-next file k) (walk-copies (times insn) (omega arith))

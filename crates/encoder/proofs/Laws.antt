@@ -19,7 +19,7 @@ use Rattle.mrc_compiler.specs.Choose.{pick}
 use Rattle.x86.specs.declared.Read.the-variants.{Whole}
 use Rattle.x86.specs.Reading.{reads}
 use Rattle.x86.proofs.Repeats.{HowRead, with-repeat, without, how-read, plain-repeat}
-use Rattle.encode_spec.specs.Records.{dst, src}
+use Rattle.encode_spec.specs.Records.{noOperand, dst, src}
 use Rattle.encode_spec.specs.WellFormed.{wellFormed, repeatFormed}
 use Rattle.encode_spec.specs.Meaning.{meaning}
 use Rattle.encode_spec.specs.Answer.{Answer, bytes, refused, answer, outcome, sliceAfter}
@@ -30,7 +30,7 @@ use Rattle.encode_fields.specs.declared.Refusal.the-variants as R
 use Rattle.encode_codes.specs.declared.Emitted.{Emitted}
 use Rattle.encode_run.specs.Run.{emptyRun, pushed, appended}
 use Rattle.encode_codes.specs.Emit.{emitted}
-use Rattle.encoder.specs.Coded.{planAnswer, behindRepeat, coded}
+use Rattle.encoder.specs.Coded.{planAnswer, behindRepeat, firstIllFormed, coded}
 use Rattle.encoder.specs.Coded as Coded
 use Rattle.encoder.specs.Lengths.{lengthOf}
 use Rattle.encoder.proofs.Tied.{tied}
@@ -185,3 +185,44 @@ module _ (insn : InstructionData) (off : ℕ) (h : off < 65536) (d : Emitted) (h
       → (pick t (N.Length (d .run .len)) (N.Refused (E.SliceTooShort (insn .«opers_span»))) ≡ outcome (answer insn off) (insn .«opers_span») s)
       × (x ≡ sliceAfter (answer insn off) s)
   out-ok s x t nd ht hx = out-by d (insn .«opers_span») s (answer insn off) x t short-answer hd nd ht hx
+
+-- ---- question 1 of the operands, one by one
+pub data Before (insn : InstructionData) : ℕ → Type 0 where
+  none : Before insn 0
+  one : wellFormed (dst insn) ≡ true → Before insn 1
+  two : wellFormed (dst insn) ≡ true → wellFormed (src insn) ≡ true → Before insn 2
+
+pub one-more : {insn : InstructionData} {i : ℕ} → Before insn i → i < 2 → wellFormed (getD (insn .opers) i noOperand) ≡ true → Before insn (i + 1)
+one-more none l f = one f
+one-more (one a) l f = two a f
+one-more (two a b) l f = absurd (omega arith)
+
+pub first-ill : {insn : InstructionData} {i : ℕ} → Before insn i → i < 2 → wellFormed (getD (insn .opers) i noOperand) ≡ false → i ≡ firstIllFormed insn
+first-ill none l f = rw f
+first-ill (one a) l f = rw (a, f)
+first-ill (two a b) l f = absurd (omega arith)
+
+pub none-ill : {insn : InstructionData} {i : ℕ} → Before insn i → 2 ≤ i → 2 ≡ firstIllFormed insn
+none-ill none l = absurd (omega arith)
+none-ill (one a) l = absurd (omega arith)
+none-ill (two a b) l = rw (a, b)
+
+-- what the place says of each
+pub first-yes : (a b : Bool) (r : ℕ) → r ≡ pick a (pick b 2 1) 0 → (r ≡ 0 → ⊥) → a ≡ true
+first-yes true b r e n = refl
+first-yes false b r e n = absurd (n e)
+
+pub first-no : (a b : Bool) (r : ℕ) → r ≡ pick a (pick b 2 1) 0 → r ≡ 0 → a ≡ false
+first-no true true r e n = absurd (omega arith)
+first-no true false r e n = absurd (omega arith)
+first-no false b r e n = refl
+
+pub second-yes : (a b : Bool) (r : ℕ) → r ≡ pick a (pick b 2 1) 0 → (r ≡ 0 → ⊥) → (r ≡ 1 → ⊥) → b ≡ true
+second-yes true true r e n m = refl
+second-yes true false r e n m = absurd (m e)
+second-yes false b r e n m = absurd (n e)
+
+pub second-no : (a b : Bool) (r : ℕ) → r ≡ pick a (pick b 2 1) 0 → r ≡ 1 → b ≡ false
+second-no true true r e n = absurd (omega arith)
+second-no true false r e n = refl
+second-no false b r e n = absurd (omega arith)

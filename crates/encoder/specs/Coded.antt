@@ -35,6 +35,10 @@ abbrev pub withRepeat : ℕ → Emitted → Emitted
 withRepeat p e =
     pick (eqb p 0) e (pick (isRefused (e .refusal)) e (record { refusal = e .refusal; run = pushed (pushed emptyRun p) (getD (e .run .bytes) 0 0) }))
 
+-- the first operand that is not well formed, or 2
+abbrev pub firstIllFormed : InstructionData → ℕ
+firstIllFormed insn = pick (wellFormed (dst insn)) (pick (wellFormed (src insn)) 2 1) 0
+
 unfoldable pub coded : InstructionData → ℕ → Answer
 coded insn off =
     pick (leb (insn .«num_opers») 2)

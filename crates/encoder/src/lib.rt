@@ -10,7 +10,7 @@ ghost use Rattle.encode_spec.specs.Answer.{answer, outcome, sliceAfter};
 ghost use Rattle.encode_spec.specs.Answer as Answers;
 ghost use Rattle.encode_run.specs.Run.{emptyRun};
 ghost use Rattle.encode_codes.specs.Emit.{emitted};
-ghost use Rattle.encoder.specs.Coded.{coded, planAnswer, withRepeat};
+ghost use Rattle.encoder.specs.Coded.{firstIllFormed, coded, planAnswer, withRepeat};
 ghost use Rattle.encoder.specs.Lengths.{lengthOf};
 use encode_codes::Emitted;
 use encode_fields::Refusal;
@@ -88,6 +88,22 @@ fn with_repeat(repeat: u8, done: Emitted) -> Emitted
     }
 }
 
+// Question 1 of the operands: the first that is not well formed, or 2. By a loop `is_well_formed` is called from one place, and is inlined.
+fn first_ill_formed(insn: InstructionData) -> usize
+    ensures { λ r. ⌜ r ≡ firstIllFormed insn ⌝ }
+{
+    let mut i = 0;
+    while i < 2 {
+        let oper = insn.opers[i];
+        if encode_operand::is_well_formed(oper) {
+            i += 1;
+        } else {
+            return i;
+        }
+    }
+    2
+}
+
 // Questions 1 to 7: the run of a record at an offset, or the refusal.
 pub fn run_of(insn: InstructionData, offset: u16) -> Emitted
     ensures { λ r. ⌜ r ≡ emitted emptyRun (answer insn offset) ⌝ }
@@ -101,8 +117,9 @@ pub fn run_of(insn: InstructionData, offset: u16) -> Emitted
     if 2 < insn.num_opers {
         return refused(EncodeError::NotWellFormed(span));
     }
-    if encode_operand::is_well_formed(dst) {
-        if encode_operand::is_well_formed(src) {
+    let ill = first_ill_formed(insn);
+    if ill != 0 {
+        if ill != 1 {
             if encode_operand::is_repeat_well_formed(repeat, insn.operation) {
                 with_repeat(
                     repeat,

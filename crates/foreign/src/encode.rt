@@ -6,6 +6,7 @@ use foreign_report::Response;
 use foreign_report::response_alone;
 use foreign_report::response_encoded;
 use foreign_report::write_report;
+use mrc_compiler::encoder::Encoded;
 
 // 14 or 15 where the bytes are not a record, else 0.
 pub fn record_number(rec: &[u8]) -> u8
@@ -20,8 +21,8 @@ pub fn record_number(rec: &[u8]) -> u8
     14
 }
 
-// Encodes the record into the front of out, and tells the answer.
-fn response_record(rec: &[u8], offset: u16, out: &mut [u8]) -> Response
+// Encodes the record into the front of out, and tells the answer: by the encoder.
+pub fn response_plain(rec: &[u8], offset: u16, out: &mut [u8]) -> Response
     ensures { λ r. ⌜ r ≡ responseRecord (recordOf (now (rec .entry))) offset (now (out .entry)) ⌝ }
     ensures { λ _. ⌜ now (out .exit) ≡ outAfter (recordOf (now (rec .entry))) offset (now (out .entry)) ⌝ }
 {
@@ -32,6 +33,20 @@ fn response_record(rec: &[u8], offset: u16, out: &mut [u8]) -> Response
     } else {
         response_alone(number)
     }
+}
+
+// The same, off the record's bytes where that gives a run that out holds.
+fn response_record(rec: &[u8], offset: u16, out: &mut [u8]) -> Response
+    ensures { λ r. ⌜ r ≡ responseRecord (recordOf (now (rec .entry))) offset (now (out .entry)) ⌝ }
+    ensures { λ _. ⌜ now (out .exit) ≡ outAfter (recordOf (now (rec .entry))) offset (now (out .entry)) ⌝ }
+{
+    let packed = fast_encoder::packed_at(rec, offset);
+    if fast_run::fits(packed, out.len()) {
+        let n = fast_run::length_of(packed);
+        fast_run::write_packed(packed, out);
+        return response_encoded(Encoded::Length(n));
+    }
+    response_plain(rec, offset, out)
 }
 
 // Encodes a record of a show file at an offset.

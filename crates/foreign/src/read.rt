@@ -4,7 +4,9 @@ ghost use Prim.Native.Nat.{_+_, _*_, _≤_};
 ghost use mathlib.Core.List.{_++_};
 ghost use lib.ListN.{length, drop};
 ghost use Rattle.reader.specs.Answer.{decoded};
+ghost use Rattle.foreign_report.specs.Crossing.{threeBytes};
 ghost use Rattle.foreign.specs.ReadBytes.{segmentIn, extensionNumber, headOf, operandHead, operandValues, readBytes, readNumber, readAfter};
+use fast_reader::Words;
 use foreign_report::put_three;
 use mrc_compiler::ast::Segment;
 use reader::Decoded;
@@ -101,6 +103,15 @@ fn write_read(insn: Instruction, form: FormName, n: usize, out: &mut [u8])
     put_three(out, 12, b, c, d)
 }
 
+// Writes the words of one.
+fn write_words(words: Words, out: &mut [u8])
+    requires { ⌜ 24 ≤ length (now out) ⌝ }
+    ensures { λ _. ⌜ now (out .exit) ≡ (threeBytes (words .head) (words .extension) (words .a) ++ threeBytes (words .b) (words .c) (words .d)) ++ drop 24 (now (out .entry)) ⌝ }
+{
+    put_three(out, 0, words.head, words.extension, words.a);
+    put_three(out, 12, words.b, words.c, words.d)
+}
+
 // Reads one instruction at the front of bytes; what follows it is not looked at, but for the byte behind F2 or F3: they belong to a string operation.
 //   offset   where the bytes stand: near targets are answered for it
 //   out      gets, where it has 24 bytes and an instruction is read: length, operation (its number in a show file), width (0 none, 1 byte, 2
@@ -115,6 +126,14 @@ pub extern "C" fn fsq_read(bytes: &[u8], offset: u16, out: &mut [u8]) -> u8
     ensures { λ r. ⌜ r ≡ readNumber (decoded offset (now (bytes .entry))) ⌝ }
     ensures { λ _. ⌜ now (out .exit) ≡ readAfter (decoded offset (now (bytes .entry))) (now (out .entry)) ⌝ }
 {
+    let words = fast_reader::words_at(bytes, offset);
+    if 0 < words.head {
+        if out.len() < 24 {
+            return 0;
+        }
+        write_words(words, out);
+        return 0;
+    }
     let read = reader::read(bytes, offset);
     match read {
         Decoded::Whole(insn, form, n) => {

@@ -36,6 +36,27 @@ chosen m zero short s =
 abbrev pub chosenBy : Instruction → Form → ℕ → ℕ → Bool
 chosenBy m f c x = chosen m (eqb (memoryLength f x) 0) (ltb (memoryLength f x) 2) (startBy f c x)
 
+-- ---- a test of all first bytes in eight: memory goes with the size of a test
+-- 32 first bytes from n on
+abbrev pub thirtyTwo : (ℕ → Bool) → ℕ → Bool
+thirtyTwo q n = upTo 32 (λ c. q (c + n))
+
+more : (q : ℕ → Bool) (n c : ℕ) → T (thirtyTwo q n) → (c < n → T (q c)) → c < n + 32 → T (q c)
+more q n c t f h = go (ltb c n) refl
+  where
+    go : (b : Bool) → ltb c n ≡ b → T (q c)
+    go true e = f (ltb-true c n e)
+    go false e =
+        let l : n ≤ c = ltb-false c n e in
+        let d : (c - n) + n ≡ c = omega arith in
+        subst (λ (k : ℕ). T (q k)) d (upTo-at 32 (λ k. q (k + n)) t (c - n) (omega arith))
+
+pub in-eight : (q : ℕ → Bool) → T (thirtyTwo q 0) → T (thirtyTwo q 32) → T (thirtyTwo q 64) → T (thirtyTwo q 96) → T (thirtyTwo q 128) → T (thirtyTwo q 160)
+    → T (thirtyTwo q 192) → T (thirtyTwo q 224) → (c : ℕ) → c < 256 → T (q c)
+in-eight q t0 t32 t64 t96 t128 t160 t192 t224 c h =
+    more q 224 c t224 (more q 192 c t192 (more q 160 c t160 (more q 128 c t128 (more q 96 c t96 (more q 64 c t64 (more q 32 c t32
+    (more q 0 c t0 (λ l. absurd (omega arith))))))))) h
+
 module _ (off p : ℕ) (t : List ℕ) where
   abbrev each : ℕ → ℕ → List Form → Bool
   each c x fs = eachOf (λ f. chosenBy (instructionOf off p f c x t) f c x) fs
@@ -48,56 +69,40 @@ module _ (off p : ℕ) (t : List ℕ) where
   abbrev covered : ℕ → Bool
   covered c = rowCovered c (startingWith c) (some (λ f. hasSecond (f .extension)) (startingWith c))
 
-  -- 32 first bytes from n on: memory goes with the size of a test
-  abbrev part : ℕ → Bool
-  part n = upTo 32 (λ c. covered (c + n))
-
-  covered-0 : T (part 0)
+  covered-0 : T (thirtyTwo covered 0)
   unfolding startingWith forms canonical numberOf groupedOf arithmeticImmediate arithmetic unary incDec moveImmediate moveFrom moveInto move exchange testImmediate test stack ret load shift call jump single port startIn startOf isAccumulator isAddress modeFor modeFits withAlternate immediateFits arithmeticFits moveAlternate exchangeFits encodingFits startFits
   covered-0 = tt
 
-  covered-32 : T (part 32)
+  covered-32 : T (thirtyTwo covered 32)
   unfolding startingWith forms canonical numberOf groupedOf arithmeticImmediate arithmetic unary incDec moveImmediate moveFrom moveInto move exchange testImmediate test stack ret load shift call jump single port startIn startOf isAccumulator isAddress modeFor modeFits withAlternate immediateFits arithmeticFits moveAlternate exchangeFits encodingFits startFits
   covered-32 = tt
 
-  covered-64 : T (part 64)
+  covered-64 : T (thirtyTwo covered 64)
   unfolding startingWith forms canonical numberOf groupedOf arithmeticImmediate arithmetic unary incDec moveImmediate moveFrom moveInto move exchange testImmediate test stack ret load shift call jump single port startIn startOf isAccumulator isAddress modeFor modeFits withAlternate immediateFits arithmeticFits moveAlternate exchangeFits encodingFits startFits
   covered-64 = tt
 
-  covered-96 : T (part 96)
+  covered-96 : T (thirtyTwo covered 96)
   unfolding startingWith forms canonical numberOf groupedOf arithmeticImmediate arithmetic unary incDec moveImmediate moveFrom moveInto move exchange testImmediate test stack ret load shift call jump single port startIn startOf isAccumulator isAddress modeFor modeFits withAlternate immediateFits arithmeticFits moveAlternate exchangeFits encodingFits startFits
   covered-96 = tt
 
-  covered-128 : T (part 128)
+  covered-128 : T (thirtyTwo covered 128)
   unfolding startingWith forms canonical numberOf groupedOf arithmeticImmediate arithmetic unary incDec moveImmediate moveFrom moveInto move exchange testImmediate test stack ret load shift call jump single port startIn startOf isAccumulator isAddress modeFor modeFits withAlternate immediateFits arithmeticFits moveAlternate exchangeFits encodingFits startFits
   covered-128 = tt
 
-  covered-160 : T (part 160)
+  covered-160 : T (thirtyTwo covered 160)
   unfolding startingWith forms canonical numberOf groupedOf arithmeticImmediate arithmetic unary incDec moveImmediate moveFrom moveInto move exchange testImmediate test stack ret load shift call jump single port startIn startOf isAccumulator isAddress modeFor modeFits withAlternate immediateFits arithmeticFits moveAlternate exchangeFits encodingFits startFits
   covered-160 = tt
 
-  covered-192 : T (part 192)
+  covered-192 : T (thirtyTwo covered 192)
   unfolding startingWith forms canonical numberOf groupedOf arithmeticImmediate arithmetic unary incDec moveImmediate moveFrom moveInto move exchange testImmediate test stack ret load shift call jump single port startIn startOf isAccumulator isAddress modeFor modeFits withAlternate immediateFits arithmeticFits moveAlternate exchangeFits encodingFits startFits
   covered-192 = tt
 
-  covered-224 : T (part 224)
+  covered-224 : T (thirtyTwo covered 224)
   unfolding startingWith forms canonical numberOf groupedOf arithmeticImmediate arithmetic unary incDec moveImmediate moveFrom moveInto move exchange testImmediate test stack ret load shift call jump single port startIn startOf isAccumulator isAddress modeFor modeFits withAlternate immediateFits arithmeticFits moveAlternate exchangeFits encodingFits startFits
   covered-224 = tt
 
-  step : (n c : ℕ) → T (part n) → (c < n → T (covered c)) → c < n + 32 → T (covered c)
-  step n c t f h = go (ltb c n) refl
-    where
-      go : (q : Bool) → ltb c n ≡ q → T (covered c)
-      go true e = f (ltb-true c n e)
-      go false e =
-          let l : n ≤ c = ltb-false c n e in
-          let d : (c - n) + n ≡ c = omega arith in
-          subst (λ (k : ℕ). T (covered k)) d (upTo-at 32 (λ k. covered (k + n)) t (c - n) (omega arith))
-
   all-covered : (c : ℕ) → c < 256 → T (covered c)
-  all-covered c h =
-      step 224 c covered-224 (step 192 c covered-192 (step 160 c covered-160 (step 128 c covered-128 (step 96 c covered-96 (step 64 c covered-64
-      (step 32 c covered-32 (step 0 c covered-0 (λ l. absurd (omega arith))))))))) h
+  all-covered = in-eight covered covered-0 covered-32 covered-64 covered-96 covered-128 covered-160 covered-192 covered-224
 
   -- a form that fits a first and second byte
   pub with-second : (c x : ℕ) → c < 256 → x < 256 → some (λ f. hasSecond (f .extension)) (startingWith c) ≡ true → {f : Form}

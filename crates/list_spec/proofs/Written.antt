@@ -28,13 +28,19 @@ use Rattle.list_spec.proofs.Behind.{displacement-is, prefix-is, behind-
 use Rattle.list_spec.proofs.Possible.{no-bytes, short-bytes}
 
 -- ---- inversion of the reading
+-- a form that fits first byte c and second byte x; 0 stands for none
+pub data Fits (f : Form) (c x : ℕ) : Type 0 where
+  with-second-byte : some (λ f. hasSecond (f .extension)) (startingWith c) ≡ true → List·Memᴰ f (fitting x (startingWith c)) → Fits f c x
+  without-one : some (λ f. hasSecond (f .extension)) (startingWith c) ≡ false → List·Memᴰ f (startingWith c) → x ≡ 0 → Fits f c x
+
 -- the form, opcode and second byte by which the bytes s behind the prefix p were read, and the bytes t behind them
-record Parsed (off p : ℕ) (s : List ℕ) (m : Instruction) (n : ℕ) : Type 0 where
+pub record Parsed (off p : ℕ) (s : List ℕ) (m : Instruction) (n : ℕ) : Type 0 where
   pub c : ℕ
   pub x : ℕ
   pub t : List ℕ
   pub f : Form
   pub listed : List·Memᴰ f forms
+  pub fits-them : Fits f c x
   pub read : readForm off p c x t f ≡ Whole m n
   pub is : s ≡ c ∷ (pick (hasSecond (f .extension)) (x ∷ []) [] ++ t)
   pub c-byte : c < 256
@@ -64,6 +70,7 @@ by-second off p c (x ∷ t) bs q e =
       t = t;
       f = f;
       listed = in-forms c i;
+      fits-them = with-second-byte q k;
       read = r;
       is = rw h refl;
       c-byte = bs 0;
@@ -84,6 +91,7 @@ by-first off p c t bs q e =
       t = t;
       f = f;
       listed = in-forms c i;
+      fits-them = without-one q i refl;
       read = r;
       is = rw h refl;
       c-byte = bs 0;
@@ -92,7 +100,7 @@ by-first off p c t bs q e =
       found = without-second off p t c (bs 0) q i;
     }
 
-parsed : (off p : ℕ) (s : List ℕ) {m : Instruction} {n : ℕ} → Bytes s → readOpcode off p s ≡ Whole m n → Parsed off p s m n
+pub parsed : (off p : ℕ) (s : List ℕ) {m : Instruction} {n : ℕ} → Bytes s → readOpcode off p s ≡ Whole m n → Parsed off p s m n
 parsed off p [] bs e = absurd (more-not-whole e)
 parsed off p (c ∷ t) {m} {n} bs e =
     go (some (λ f. hasSecond (f .extension)) fs) refl (pick-whole (some (λ f. either (eqb p 0) (mayNameMemory f)) fs) _ Nothing nothing-not-whole e .1)
@@ -142,44 +150,65 @@ pub record Written (off : ℕ) (s : List ℕ) (m : Instruction) : Type 0 where
 abbrev Front : ℕ → Type 0
 Front p = (p ≡ 0) ⊎ ((prefix p ≡ true) × (p < 256))
 
-prefix-not-0 : (p : ℕ) → prefix p ≡ true → eqb p 0 ≡ false
+pub prefix-not-0 : (p : ℕ) → prefix p ≡ true → eqb p 0 ≡ false
 unfolding prefix
 prefix-not-0 zero e = sym e
 prefix-not-0 (suc p) e = eqb·suc-zero p
 
-from-parsed : (off p : ℕ) (s₀ s : List ℕ) (m : Instruction) → s₀ ≡ prefixBytes p ++ s → off < 65536 → Front p → Parsed off p s m (length s₀) → Written off s₀ m
-unfolding stringOf
-from-parsed off p s₀ s m e h front r =
-    let c = r .c in
-    let x = r .x in
-    let t = r .t in
-    let f = r .f in
-    let (o, d, n) = form-whole off p c x t f (r .read) in
-    let whole : s₀ ≡ prefixBytes p ++ (c ∷ (pick (hasSecond (f .extension)) (x ∷ []) [] ++ t)) = cc (r .is) in
-    let l : length s₀ ≡ length (prefixBytes p) + suc (length (pick (hasSecond (f .extension)) (x ∷ []) [] ++ t)) = ap length whole ∙ length-append (prefixBytes p) _ in
-    let lt : length t ≡ tailLength f x = omega (arith, prefix-length p, second-length (hasSecond (f .extension)) x t) in
-    let b = behind-start off p c x t f (r .listed) h (r .t-bytes) lt o (r .x-byte) in
-    let z : c ≡ c % 256 = omega (arith, r .c-byte) in
-    let i : displacementOf m ≡ displacementAt (memoryLength f x) t = sym (ap displacementOf d) ∙ displacement-is off p c x t f (r .listed) (r .t-bytes) in
-    record {
-      p = p;
-      start = startBy f c x;
-      is =
-          whole ∙ (ap₂ (λ (k : ℕ) (l : List ℕ). prefixBytes p ++ (k ∷ l)) z b
-          ∙ ap (λ (m : Instruction). stringOf off p (startBy f c x) (partsOf m)) d);
-      zero = eqb (memoryLength f x) 0;
-      short = ltb (memoryLength f x) 2;
-      is-zero = λ h. subst (λ (k : ℕ). T (eqb k 0)) (sym i) (no-bytes (memoryLength f x) t h);
-      is-short = λ h. subst (λ (k : ℕ). T (isShort k)) (sym i) (short-bytes (memoryLength f x) t (r .t-bytes) h);
-      is-chosen = subst (λ (m : Instruction). T (chosenBy m f c x)) d (r .found);
-      prefix-none = segment front o d;
-    }
-  where
-    segment : Front p → either (eqb p 0) (namesMemory (r .f) (r .x)) ≡ true → instructionOf off p (r .f) (r .c) (r .x) (r .t) ≡ m → (p ≡ 0) ⊎ (p ≡ prefixOf m)
-    segment (inl z) o d = inl z
-    segment (inr (q, k)) o d =
-        let n : namesMemory (r .f) (r .x) ≡ true = rw (prefix-not-0 p q) at o in
-        inr (sym (prefix-is off p (r .c) (r .x) (r .t) (r .f) (r .listed) q k n) ∙ ap prefixOf d)
+-- a form, opcode and second byte give the string s₀ behind the prefix p its start and the instruction its displacement
+module _ (off p : ℕ) (s₀ s : List ℕ) (m : Instruction) (e : s₀ ≡ prefixBytes p ++ s) (h : off < 65536) (r : Parsed off p s m (length s₀)) where
+  abbrev read-by : (either (eqb p 0) (namesMemory (r .f) (r .x)) ≡ true) × (instructionOf off p (r .f) (r .c) (r .x) (r .t) ≡ m) × (headLength p (r .f) + tailLength (r .f) (r .x) ≡ length s₀)
+  read-by = form-whole off p (r .c) (r .x) (r .t) (r .f) (r .read)
+
+  pub instruction-is : instructionOf off p (r .f) (r .c) (r .x) (r .t) ≡ m
+  instruction-is = read-by .1
+
+  pub displacement-of : displacementOf m ≡ displacementAt (memoryLength (r .f) (r .x)) (r .t)
+  displacement-of = sym (ap displacementOf instruction-is) ∙ displacement-is off p (r .c) (r .x) (r .t) (r .f) (r .listed) (r .t-bytes)
+
+  pub string-is : s₀ ≡ stringOf off p (startBy (r .f) (r .c) (r .x)) (partsOf m)
+  unfolding stringOf
+  string-is =
+      let c = r .c in
+      let x = r .x in
+      let t = r .t in
+      let f = r .f in
+      let (o, d, n) = read-by in
+      let whole : s₀ ≡ prefixBytes p ++ (c ∷ (pick (hasSecond (f .extension)) (x ∷ []) [] ++ t)) = cc (r .is) in
+      let l : length s₀ ≡ length (prefixBytes p) + suc (length (pick (hasSecond (f .extension)) (x ∷ []) [] ++ t)) = ap length whole ∙ length-append (prefixBytes p) _ in
+      let lt : length t ≡ tailLength f x = omega (arith, prefix-length p, second-length (hasSecond (f .extension)) x t) in
+      let b = behind-start off p c x t f (r .listed) h (r .t-bytes) lt o (r .x-byte) in
+      let z : c ≡ c % 256 = omega (arith, r .c-byte) in
+      whole ∙ (ap₂ (λ (k : ℕ) (l : List ℕ). prefixBytes p ++ (k ∷ l)) z b
+      ∙ ap (λ (m : Instruction). stringOf off p (startBy f c x) (partsOf m)) d)
+
+  -- behind a prefix there is memory, in its segment
+  pub names-memory : prefix p ≡ true → namesMemory (r .f) (r .x) ≡ true
+  names-memory q = rw (prefix-not-0 p q) at (read-by .0)
+
+  pub prefix-of : prefix p ≡ true → p < 256 → prefixOf m ≡ p
+  prefix-of q k = sym (ap prefixOf instruction-is) ∙ prefix-is off p (r .c) (r .x) (r .t) (r .f) (r .listed) q k (names-memory q)
+
+  from-parsed : Front p → Written off s₀ m
+  from-parsed front =
+      let x = r .x in
+      let f = r .f in
+      let i = displacement-of in
+      record {
+        p = p;
+        start = startBy f (r .c) x;
+        is = string-is;
+        zero = eqb (memoryLength f x) 0;
+        short = ltb (memoryLength f x) 2;
+        is-zero = λ h. subst (λ (k : ℕ). T (eqb k 0)) (sym i) (no-bytes (memoryLength f x) (r .t) h);
+        is-short = λ h. subst (λ (k : ℕ). T (isShort k)) (sym i) (short-bytes (memoryLength f x) (r .t) (r .t-bytes) h);
+        is-chosen = subst (λ (m : Instruction). T (chosenBy m f (r .c) x)) instruction-is (r .found);
+        prefix-none = segment front;
+      }
+    where
+      segment : Front p → (p ≡ 0) ⊎ (p ≡ prefixOf m)
+      segment (inl z) = inl z
+      segment (inr (q, k)) = inr (sym (prefix-of q k))
 
 pub written : (off : ℕ) (s : List ℕ) (m : Instruction) → off < 65536 → Bytes s → readPlain off s ≡ Whole m (length s) → Written off s m
 unfolding readPlain
@@ -187,5 +216,5 @@ written off [] m h bs e = absurd (more-not-whole e)
 written off (b ∷ s) m h bs e = go (prefix b) refl e
   where
     go : (q : Bool) → prefix b ≡ q → pick q (readOpcode off b s) (readOpcode off 0 (b ∷ s)) ≡ Whole m (length (b ∷ s)) → Written off (b ∷ s) m
-    go true q e = from-parsed off b (b ∷ s) s m (rw (prefix-not-0 b q) refl) h (inr (q, bs 0)) (parsed off b s (λ i. bs (suc i)) e)
-    go false q e = from-parsed off 0 (b ∷ s) (b ∷ s) m refl h (inl refl) (parsed off 0 (b ∷ s) bs e)
+    go true q e = from-parsed off b (b ∷ s) s m (rw (prefix-not-0 b q) refl) h (parsed off b s (λ i. bs (suc i)) e) (inr (q, bs 0))
+    go false q e = from-parsed off 0 (b ∷ s) (b ∷ s) m refl h (parsed off 0 (b ∷ s) bs e) (inl refl)

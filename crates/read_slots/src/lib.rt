@@ -84,7 +84,7 @@ pub fn allows_second(restriction: Restriction, x: u8) -> bool
 }
 
 // The byte at a place, 0 past the end.
-fn byte_at(t: &[u8], i: usize) -> u8
+pub fn byte_at(t: &[u8], i: usize) -> u8
     ensures { λ r. ⌜ r ≡ getD (now (t .entry)) i 0 ⌝ }
 {
     if i < t.len() { t[i] } else { 0 }
@@ -98,7 +98,7 @@ fn word(low: u8, high: u8) -> u16
 }
 
 // The word at a place.
-fn word_at(t: &[u8], i: usize) -> u16
+pub fn word_at(t: &[u8], i: usize) -> u16
     requires { ⌜ i ≤ 2 ⌝ }
     ensures { λ r. ⌜ r ≡ wordAt i (now (t .entry)) ⌝ }
 {
@@ -106,7 +106,7 @@ fn word_at(t: &[u8], i: usize) -> u16
 }
 
 // A byte sign-extended to 16 bits.
-fn sign_extended(b: u8) -> u16
+pub fn sign_extended(b: u8) -> u16
     ensures { λ r. ⌜ r ≡ signExtended b ⌝ }
 {
     if b < 128 {
@@ -117,7 +117,7 @@ fn sign_extended(b: u8) -> u16
 }
 
 // A displacement of n bytes.
-fn displacement_at(n: u8, t: &[u8]) -> u16
+pub fn displacement_at(n: u8, t: &[u8]) -> u16
     ensures { λ r. ⌜ r ≡ displacementAt n (now (t .entry)) ⌝ }
 {
     if n == 0 {

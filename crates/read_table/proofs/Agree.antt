@@ -44,11 +44,11 @@ abbrev pub said : Shape → ℕ → ℕ → Said
 said s c x = saidBy s c x (foundAt s c x)
 
 -- the values of g below n, the last first
-abbrev table : {A : Type 0} → ℕ → (ℕ → A) → List A
+abbrev pub table : {A : Type 0} → ℕ → (ℕ → A) → List A
 table zero g = []
 table (suc n) g = g n ∷ table n g
 
-table-at : {A : Type 0} (n : ℕ) (g h : ℕ → A) → table n g ≡ table n h → (k : ℕ) → k < n → g k ≡ h k
+pub table-at : {A : Type 0} (n : ℕ) (g h : ℕ → A) → table n g ≡ table n h → (k : ℕ) → k < n → g k ≡ h k
 table-at zero g h e k l = absurd (not-suc-le-zero l)
 table-at (suc n) g h e k l = ⊎-elim (λ z. rw z (cc)) (λ l. table-at n g h (cc) k l) (eq-or-lt-of-le (le-of-suc-le-suc l))
 

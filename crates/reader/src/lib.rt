@@ -301,7 +301,7 @@ fn is_prefix(b: u8) -> bool
 }
 
 // The prefix that a first byte is, 0 where it is none.
-fn prefix_of(b: u8) -> u8
+pub fn prefix_of(b: u8) -> u8
     ensures { λ r. ⌜ r ≡ pick (prefix b) b 0 ⌝ }
 {
     if is_prefix(b) { b } else { 0 }

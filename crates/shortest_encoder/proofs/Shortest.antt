@@ -67,6 +67,14 @@ module _ (off : ℕ) (m : Instruction) (h : off < 65536) (own : List ℕ) (own-b
       go b (zero, n, e) = e
       go b (suc j, n, e) = absurd (before-once s (getD l 0 []) b (subst (λ (t : List ℕ). Before (getD l 0 []) t) e (i .in-order 0 (suc j) (omega arith) n)))
 
+  -- it is the own string where that has no other before it
+  pub s-own : ((t : List ℕ) → Bytes t → ReadsAs off m t → (own ≡ t) ⊎ Before own t) → own ≡ s
+  s-own f =
+      let l = s-listed in
+      ⊎-elim (λ (e : own ≡ s). e)
+      (λ (b : Before own s). ⊎-elim (λ (e : s ≡ own). sym e) (λ (a : Before s own). absurd (before-once own s b a)) (s-lowest own own-bytes own-reads))
+      (f s (l .are-bytes) (l .reads-it))
+
 -- ---- document 02, No. 8, for every record that is accepted
 pub accepted-shortest : (insn : InstructionData) (off : ℕ) → off < 65536 → (bs : List ℕ) → answer insn off ≡ bytes bs
     → (shortestAnswer insn off ≡ bytes (shortest insn off)) × IsShortest insn off (shortest insn off)

@@ -8,6 +8,7 @@ ghost use Rattle.encode_run.specs.Run.{emptyRun, appended};
 ghost use Rattle.encode_codes.specs.Emit.{emitted};
 ghost use Rattle.list_spec.specs.Parts.{partsOf};
 ghost use Rattle.list_spec.specs.Possible.{possible};
+ghost use Rattle.list_first.specs.First.{isFirstOf};
 ghost use Rattle.shortest_encoder.specs.Search.{bestOf, stringIn, stepped, search};
 ghost use Rattle.shortest_encoder.specs.Shortest.{shortestAnswer};
 use encode_codes::Emitted;
@@ -81,6 +82,19 @@ fn shortest_of(offset: u16, insn: Instruction, own: ByteRun) -> ByteRun
     best.run
 }
 
+// Do a run's first bytes tell that it is the first of its listing?
+fn is_first_run(run: ByteRun) -> bool
+    ensures { λ r. ⌜ r ≡ isFirstOf (run .bytes) ⌝ }
+{
+    list_first::is_first(
+        run.bytes[0],
+        run.bytes[1],
+        run.bytes[2],
+        run.bytes[3],
+        run.bytes[4],
+    )
+}
+
 // The shortest run of a record at an offset, or encode's refusal.
 pub fn shortest_run(insn: InstructionData, offset: u16) -> Emitted
     ensures { λ r. ⌜ r ≡ emitted emptyRun (shortestAnswer insn offset) ⌝ }
@@ -90,14 +104,19 @@ pub fn shortest_run(insn: InstructionData, offset: u16) -> Emitted
     let run = done.run;
     match refusal {
         Refusal::Because(_) => done,
-        Refusal::None => match lister::read_run(run, offset) {
-            Read::Whole(own, _) => Emitted {
-                refusal: Refusal::None,
-                run: shortest_of(offset, own, run),
-            },
-            Read::Nothing => done,
-            Read::More => done,
-        },
+        Refusal::None => {
+            if is_first_run(run) {
+                return done;
+            }
+            match lister::read_run(run, offset) {
+                Read::Whole(own, _) => Emitted {
+                    refusal: Refusal::None,
+                    run: shortest_of(offset, own, run),
+                },
+                Read::Nothing => done,
+                Read::More => done,
+            }
+        }
     }
 }
 

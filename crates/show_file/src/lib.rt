@@ -186,7 +186,7 @@ pub fn open(file: &[u8], limit: u16) -> Opened
 }
 
 // The bytes of a file's records.
-fn record_bytes(file: &[u8]) -> usize
+pub fn record_bytes(file: &[u8]) -> usize
     requires { ⌜ headerLength ≤ length (now file) ⌝ }
     ensures { λ r. ⌜ r ≡ recordBytes (now (file .entry)) ⌝ }
     ensures small { λ r. ⌜ r ≤ 57 ⌝ }
@@ -195,7 +195,7 @@ fn record_bytes(file: &[u8]) -> usize
 }
 
 // Where record k begins, of records of so many bytes.
-fn place_of(each: usize, k: usize) -> usize
+pub fn place_of(each: usize, k: usize) -> usize
     requires { ⌜ (each ≤ 57) × (k ≤ mostRecords) ⌝ }
     ensures { λ r. ⌜ r ≡ headerLength + each * k ⌝ }
 {

@@ -12,13 +12,14 @@ use lib.Dec.{eqb, ltb, leb}
 use lib.ListN.{length, take, length-append}
 use borrow.Author.Tests.{ltb-true, ltb-false, leb-true, eqb-true, le-ltb, lt-ltb}
 use Rattle.mrc_compiler.specs.declared.encoder.EncodeError.{EncodeError}
+use Rattle.mrc_compiler.specs.declared.encoder.Encoded.the-variants as N
 use Rattle.mrc_compiler.specs.Choose.{pick, both}
 use Rattle.encode_spec.specs.Answer.{Answer, bytes, refused}
 use Rattle.encode_spec.proofs.Outcomes.{Short, answer-short}
 use Rattle.encode_run.specs.Run.{emptyRun}
-use Rattle.encode_fields.specs.declared.Refusal.the-variants as R
 use Rattle.encode_codes.specs.declared.Emitted.{Emitted}
 use Rattle.encode_codes.specs.Emit.{emitted}
+use Rattle.encoder.specs.Lengths.{lengthOf}
 use Rattle.show_file.specs.declared.Header.{Header}
 use Rattle.show_file.specs.declared.LoadError.{LoadError}
 use Rattle.show_file.specs.declared.LoadError.the-variants as LE
@@ -96,7 +97,7 @@ module _ (file : List ℕ) (origin k at : ℕ) (u : Upto file origin k at) where
   next-is : walk file origin (suc k) ≡ followed k (bytesIn (walk file origin k)) (answerAt file origin k at)
   next-is = rw (u .ends) (walk-next file origin k (bytesIn (walk file origin k)) (u .whole))
 
-  step-bytes : (cs : List ℕ) → answerAt file origin k at ≡ bytes cs → Step file origin k at
+  pub step-bytes : (cs : List ℕ) → answerAt file origin k at ≡ bytes cs → Step file origin k at
   step-bytes cs e =
       let n : walk file origin (k + 1) ≡ all (bytesIn (walk file origin k) ++ cs) = rw (add-one k) (next-is ∙ rw e) in
       record {
@@ -104,24 +105,23 @@ module _ (file : List ℕ) (origin k at : ℕ) (u : Upto file origin k at) where
         upto = record { whole = rw n refl; ends = rw (n, e, length-append (bytesIn (walk file origin k)) cs, ← (u .ends)) refl };
       }
 
-  step-stops : (e : EncodeError) → answerAt file origin k at ≡ refused e → (n : ℕ) → k < n → walk file origin n ≡ stopped k e
+  pub step-stops : (e : EncodeError) → answerAt file origin k at ≡ refused e → (n : ℕ) → k < n → walk file origin n ≡ stopped k e
   step-stops e q n h = stays file origin (suc k) n k e (next-is ∙ rw q) h
 
-  -- by what run_at gives
-  module _ (d : Emitted) (hd : d ≡ emitted emptyRun (answerAt file origin k at)) where
-    pub step-none : d .refusal ≡ R.None → Step file origin k at
-    step-none q = go (answerAt file origin k at) refl
-      where
-        go : (a : Answer) → answerAt file origin k at ≡ a → Step file origin k at
-        go (bytes cs) e = step-bytes cs e
-        go (refused x) e = let r : R.Because x ≡ R.None = rw (hd, e) at q in let z : _≡_ {A = ℕ} 0 1 = cc in absurd (omega arith)
+  -- by what length_at gives
+  pub step-length : (m : ℕ) → N.Length m ≡ lengthOf (answerAt file origin k at) → Step file origin k at × (m ≡ length (bytesOf (answerAt file origin k at)))
+  step-length m q = go (answerAt file origin k at) refl
+    where
+      go : (a : Answer) → answerAt file origin k at ≡ a → Step file origin k at × (m ≡ length (bytesOf (answerAt file origin k at)))
+      go (bytes cs) e = let r : N.Length m ≡ N.Length (length cs) = rw e at q in (step-bytes cs e, rw e (cc))
+      go (refused x) e = let r : N.Length m ≡ N.Refused x = rw e at q in let z : _≡_ {A = ℕ} 0 1 = cc in absurd (omega arith)
 
-    pub step-refused : (x : EncodeError) → d .refusal ≡ R.Because x → (n : ℕ) → k < n → walk file origin n ≡ stopped k x
-    step-refused x q n h = go (answerAt file origin k at) refl
-      where
-        go : (a : Answer) → answerAt file origin k at ≡ a → walk file origin n ≡ stopped k x
-        go (bytes cs) e = let r : R.None ≡ R.Because x = rw (hd, e) at q in let z : _≡_ {A = ℕ} 0 1 = cc in absurd (omega arith)
-        go (refused y) e = let r : R.Because y ≡ R.Because x = rw (hd, e) at q in let same : y ≡ x = cc in step-stops x (rw same at e) n h
+  pub step-refused : (x : EncodeError) → N.Refused x ≡ lengthOf (answerAt file origin k at) → (n : ℕ) → k < n → walk file origin n ≡ stopped k x
+  step-refused x q n h = go (answerAt file origin k at) refl
+    where
+      go : (a : Answer) → answerAt file origin k at ≡ a → walk file origin n ≡ stopped k x
+      go (bytes cs) e = let r : N.Refused x ≡ N.Length (length cs) = rw e at q in let z : _≡_ {A = ℕ} 0 1 = cc in absurd (omega arith)
+      go (refused y) e = let r : N.Refused x ≡ N.Refused y = rw e at q in let same : y ≡ x = cc in step-stops x (rw same at e) n h
 
   -- where the first n are accepted
   module _ (n : ℕ) (t : isAll (walk file origin n) ≡ true) (h : k < n) where

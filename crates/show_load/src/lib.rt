@@ -4,14 +4,17 @@ ghost use mathlib.Core.Bool.{true};
 ghost use mathlib.Core.List.{_++_};
 ghost use Prim.Native.Nat.{_<_, _≤_};
 ghost use lib.ListN.{length, drop};
+ghost use Rattle.encode_spec.specs.Answer.{bytes};
 ghost use Rattle.encode_run.specs.Run.{emptyRun};
 ghost use Rattle.encode_codes.specs.Emit.{emitted};
+ghost use Rattle.encoder.specs.Lengths.{lengthOf};
+ghost use Rattle.fast_run.specs.Packed.{unpacked};
 ghost use Rattle.show_file.specs.Show.{recordPlace, mostRecords};
 ghost use Rattle.show_load.specs.Loading.{offsetBehind, answerAt, walk, bytesOf, bytesIn, isAll, firstOver, measured, accepted, tooShort, loaded, imageAfter};
 use encode_codes::Emitted;
-use encode_fields::Refusal;
 use encoder::write_run;
 use mrc_compiler::encoder::EncodeError;
+use mrc_compiler::encoder::Encoded;
 use show_file::Header;
 use show_file::LoadError;
 use show_file::MOST_RECORDS;
@@ -19,6 +22,8 @@ use show_file::Opened;
 use show_file::first_unknown;
 use show_file::insn_at;
 use show_file::open;
+use show_file::place_of;
+use show_file::record_bytes;
 
 pub enum Loaded {
     // The header, and the length of the image.
@@ -43,6 +48,33 @@ pub fn run_at(file: &[u8], n: usize, origin: u16, k: usize, at: usize) -> Emitte
     encoder::run_of(insn, offset)
 }
 
+// The same by the faster way: the bytes as one number, or 0.
+fn packed_step(file: &[u8], n: usize, origin: u16, k: usize, at: usize) -> u64
+    requires { ⌜ (length (now file) ≡ recordPlace (now file) n) × (n ≤ mostRecords) × (k < n) ⌝ }
+    ensures { λ r. ⌜ (0 < r → answerAt (now (file .entry)) origin k at ≡ bytes (unpacked r)) ⌝ }
+{
+    let each = record_bytes(file);
+    let from = place_of(each, k);
+    let to = from + each;
+    let rec = &file[from..to];
+    let offset = offset_behind(origin, at);
+    fast_encoder::packed_at(rec, offset)
+}
+
+// Its length, or its refusal.
+fn length_at(file: &[u8], n: usize, origin: u16, k: usize, at: usize) -> Encoded
+    requires { ⌜ (length (now file) ≡ recordPlace (now file) n) × (n ≤ mostRecords) × (k < n) ⌝ }
+    ensures { λ r. ⌜ r ≡ lengthOf (answerAt (now (file .entry)) origin k at) ⌝ }
+{
+    let packed = packed_step(file, n, origin, k, at);
+    if packed != 0 {
+        return Encoded::Length(fast_run::length_of(packed));
+    }
+    let insn = insn_at(file, n, k);
+    let offset = offset_behind(origin, at);
+    encoder::encoded_length(insn, offset)
+}
+
 // Each record in order: the header with the length of all, or the first that is refused.
 fn measure(file: &[u8], header: Header) -> Loaded
     requires { ⌜ (length (now file) ≡ recordPlace (now file) (header .count)) × (header .count ≤ mostRecords) ⌝ }
@@ -53,15 +85,13 @@ fn measure(file: &[u8], header: Header) -> Loaded
     let mut k = 0;
     let mut at = 0;
     while k < n {
-        let step = run_at(file, n, origin, k, at);
-        let refusal = step.refusal;
-        let run = step.run;
-        match refusal {
-            Refusal::Because(e) => {
+        let step = length_at(file, n, origin, k, at);
+        match step {
+            Encoded::Refused(e) => {
                 return Loaded::Refused(LoadError::Record(k, e));
             },
-            Refusal::None => {
-                at = at + run.len;
+            Encoded::Length(m) => {
+                at = at + m;
             },
         }
         k += 1;
@@ -113,6 +143,11 @@ fn write_record(file: &[u8], n: usize, origin: u16, k: usize, at: usize, out: &m
     ensures { λ r. ⌜ r ≡ length (bytesOf (answerAt (now (file .entry)) origin k at)) ⌝ }
     ensures { λ _. ⌜ now (out .exit) ≡ bytesOf (answerAt (now (file .entry)) origin k at) ++ drop (length (bytesOf (answerAt (now (file .entry)) origin k at))) (now (out .entry)) ⌝ }
 {
+    let packed = packed_step(file, n, origin, k, at);
+    if packed != 0 {
+        fast_run::write_packed(packed, out);
+        return fast_run::length_of(packed);
+    }
     let step = run_at(file, n, origin, k, at);
     let run = step.run;
     let m = run.len;

@@ -22,43 +22,43 @@ use mrc_compiler::operations::Operation;
 use mrc_compiler::operations::OptionOperation;
 
 // The places of an operand's fields, from its first byte.
-const KIND: usize = 0;
+pub const KIND: usize = 0;
 
-const SIZE: usize = 1;
+pub const SIZE: usize = 1;
 
-const PREFIX: usize = 2;
+pub const PREFIX: usize = 2;
 
-const DISPLACEMENT_SIZE: usize = 3;
+pub const DISPLACEMENT_SIZE: usize = 3;
 
-const JUMP_KIND: usize = 4;
+pub const JUMP_KIND: usize = 4;
 
-const MODE: usize = 5;
+pub const MODE: usize = 5;
 
-const RM: usize = 6;
+pub const RM: usize = 6;
 
-const IMM: usize = 7;
+pub const IMM: usize = 7;
 
-const DISPLACEMENT: usize = 11;
+pub const DISPLACEMENT: usize = 11;
 
 const OPERAND_SPAN: usize = 15;
 
-const OPERAND_LENGTH: usize = 23;
+pub const OPERAND_LENGTH: usize = 23;
 
 // The places of a record's fields.
-const OPERATION: usize = 0;
+pub const OPERATION: usize = 0;
 
-const COUNT: usize = 1;
+pub const COUNT: usize = 1;
 
 const SPAN: usize = 2;
 
-const FIRST: usize = 10;
+pub const FIRST: usize = 10;
 
-const SECOND: usize = FIRST + OPERAND_LENGTH;
+pub const SECOND: usize = FIRST + OPERAND_LENGTH;
 
 pub const RECORD_LENGTH: usize = SECOND + OPERAND_LENGTH;
 
 // A record with a repeat has it behind the count, and the other fields a byte further.
-const REPEAT: usize = 2;
+pub const REPEAT: usize = 2;
 
 pub const LONG_RECORD_LENGTH: usize = RECORD_LENGTH + 1;
 
@@ -77,7 +77,7 @@ fn u32_of(a: u8, b: u8, c: u8, d: u8) -> u32
 }
 
 // The u32 at a place.
-fn u32_at(bytes: &[u8], at: usize) -> u32
+pub fn u32_at(bytes: &[u8], at: usize) -> u32
     requires { ⌜ at + 4 ≤ length (now bytes) ⌝ }
     ensures { λ r. ⌜ r ≡ u32At (now (bytes .entry)) at ⌝ }
 {
@@ -182,7 +182,7 @@ fn operand_at(bytes: &[u8], at: usize) -> OperandData
 }
 
 // How many bytes of repeat a record of this length has.
-fn repeat_in(length: usize) -> usize
+pub fn repeat_in(length: usize) -> usize
     ensures { λ r. ⌜ r ≡ repeatIn length ⌝ }
     ensures small { λ r. ⌜ r ≤ 1 ⌝ }
 {

@@ -34,7 +34,7 @@ fn without_std() {
 fn without_the_library() {
     // A copy of the crate, beside which no library stands.
     let (here, copy) = (Path::new(env!("CARGO_MANIFEST_DIR")), folder("without_library").join("library/rust"));
-    for part in ["", "src", "tests", "examples"] {
+    for part in ["", "src", "tests", "examples", "benches"] {
         fs::create_dir_all(copy.join(part)).unwrap();
         for entry in fs::read_dir(here.join(part)).unwrap().map(Result::unwrap) {
             if entry.file_type().unwrap().is_file() {

@@ -7,6 +7,14 @@ use super::records::{mix, Packed};
 #[cfg(standin)]
 use super::standin::fsq_encode;
 
+// In its place the plain encoder by itself.
+#[cfg(plain)]
+use self::fsq_plain as fsq_encode;
+#[cfg(plain)]
+extern "C" {
+    fn fsq_plain(rec: *const u8, rec_len: usize, offset: u16, out: *mut u8, out_len: usize, report: *mut u8, report_len: usize) -> u8;
+}
+
 /// The longest slice that is lent. One byte more than the longest run.
 pub const LONGEST: usize = FSQ_STRING_LENGTH + 1;
 

@@ -1,9 +1,9 @@
-use Rattle.show_load.proofs.Laws.{ran, Upto, upto-start, step-none, step-refused, within-seven}
+use Rattle.show_load.proofs.Laws.{Upto, upto-start, step-length, step-refused, within-seven}
 use borrow.Author.Needs.{needs}
 use denote.Ref.{now}
 use native.Mathlib.Omega.{arith}
-use Prim.Native.Nat.{_≤_, _-_}
-use mathlib.Core.Path.{_≡_}
+use Prim.Native.Nat.{_+_, _-_, _≤_}
+use mathlib.Core.Path.{_≡_, sym, _∙_}
 use Rattle.show_load.proofs.measure.Statement.{statement}
 use Rattle.show_load.proofs.measure.Tie as tie
 
@@ -15,28 +15,25 @@ abbrev μ-loop : tie.MeasureT-loop
 
 returns : tie.Need-returns Inv-loop μ-loop
 returns c =
-    let a = c .before .before .before .before .before .before .before .before .before .args in
-    let o = c .before .before .before .before .before .before .loop in
-    let d = c .before .before .before .before .run-at in
-    rw (step-refused (now (a .file)) (a .header .origin) (o .k) (o .at) (o .inv .1) (d .result) (d .ensures) _ (c .before .refusal .given .1) _ (c .before .before .before .before .before .loop-test .taken))
+    let a = c .before .before .before .before .before .before .before .before .args in
+    let o = c .before .before .before .before .before .loop in
+    rw (step-refused (now (a .file)) (a .header .origin) (o .k) (o .at) (o .inv .1) _ (sym (c .before .step .given .1) ∙ c .before .before .before .length-at .ensures) _ (c .before .before .before .before .loop-test .taken))
 
 add-at : tie.Need-add-at Inv-loop μ-loop
 add-at c =
-    let a = c .before .before .before .before .before .before .before .before .before .args in
-    let o = c .before .before .before .before .before .before .loop in
-    let d = c .before .before .before .before .run-at in
-    let r = ran (now (a .file)) (a .header .origin) (o .k) (o .at) (d .result) (d .ensures) in
-    let e = o .inv .1 .ends in
-    let w = within-seven (now (a .file)) (a .header .origin) (o .k) in
-    omega arith
+    let a = c .before .before .before .before .before .before .before .before .args in
+    let o = c .before .before .before .before .before .loop in
+    let s = step-length (now (a .file)) (a .header .origin) (o .k) (o .at) (o .inv .1) _ (sym (c .before .step2 .given .1) ∙ c .before .before .before .length-at .ensures) in
+    let e = s .0 .upto .ends in
+    let w = within-seven (now (a .file)) (a .header .origin) (o .k + 1) in
+    omega (arith, s .1)
 
 loop-again : tie.Need-loop-again Inv-loop μ-loop
 loop-again c =
-    let a = c .before .before .before .before .before .before .before .before .before .args in
-    let o = c .before .before .before .before .before .before .loop in
-    let d = c .before .before .before .before .run-at in
-    let r = ran (now (a .file)) (a .header .origin) (o .k) (o .at) (d .result) (d .ensures) in
-    (search needs, rw (r .count) (step-none (now (a .file)) (a .header .origin) (o .k) (o .at) (o .inv .1) (d .result) (d .ensures) (c .before .enum-told .given .1) .upto))
+    let a = c .before .before .before .before .before .before .before .before .args in
+    let o = c .before .before .before .before .before .loop in
+    let s = step-length (now (a .file)) (a .header .origin) (o .k) (o .at) (o .inv .1) _ (sym (c .before .step2 .given .1) ∙ c .before .before .before .length-at .ensures) in
+    (search needs, rw (s .1) (s .0 .upto))
 
 returns-2 : tie.Need-returns-2 Inv-loop μ-loop
 returns-2 c =

@@ -1,0 +1,5 @@
+pub mod Slots
+pub mod Plain
+pub mod Repeats
+pub mod Placing
+pub mod Modrm
