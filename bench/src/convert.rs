@@ -1,4 +1,4 @@
-//! A show to convert that asks for the most: 1,000 records, each a branch to one of them.
+//! A show to convert, or to check, that asks for the most: 1,000 records, each a branch to one of them.
 
 use super::bindings::{FSQ_CONVERTED_LENGTH, FSQ_FIRST_AT, FSQ_HEADER_LENGTH, FSQ_IMMEDIATE_AT, FSQ_RECORD_LENGTH, FSQ_REPORT_LENGTH};
 use super::clock::Turn;
@@ -42,6 +42,39 @@ impl Branches {
     /// The file, for fsq186.
     pub fn print(&self) -> Result<(), String> {
         std::io::Write::write_all(&mut std::io::stdout(), &self.file).map_err(|e| e.to_string())
+    }
+}
+
+/// The same show, whose targets are checked.
+pub struct Targets(Branches);
+
+impl Targets {
+    /// The targets of the show.
+    pub fn new() -> Targets {
+        Targets(Branches::new())
+    }
+}
+
+impl Turn for Targets {
+    fn count(&self) -> usize {
+        RECORDS
+    }
+
+    fn clear(&mut self) {
+        self.0.length = None;
+    }
+
+    #[inline(never)]
+    fn round(&mut self) {
+        let mut report: Report = [0; FSQ_REPORT_LENGTH];
+        self.0.length = rattle::check(&self.0.file, &mut report);
+    }
+
+    fn answers(&self) -> Result<(), String> {
+        match self.0.length == Some(3 * RECORDS) {
+            true => Ok(()),
+            false => Err(format!("check-rattle: another length, {:?}", self.0.length)),
+        }
     }
 }
 

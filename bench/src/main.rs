@@ -53,6 +53,7 @@ pub fn main() -> ExitCode {
         ["work", _, "run-rattle", rounds] => work(runs::Desk::new(true), rounds),
         ["work", _, "run-refused", rounds] => work(runs::Desk::new(false), rounds),
         ["work", _, "convert-rattle", rounds] => work(convert::Branches::new(), rounds),
+        ["work", _, "check-rattle", rounds] => work(convert::Targets::new(), rounds),
         ["work", file, side, rounds] => Show::read(file).and_then(|show| work(OnShow::new(&show, sides::named(side).ok_or(format!("no side {side}"))?), rounds)),
         _ => Err("full FILE, short FILE, listing FILE, texts, cues, image, steps, branches, or work FILE SIDE ROUNDS".to_string()),
     };
@@ -101,6 +102,7 @@ fn measure(show: &Show, rounds: usize, warming: usize, timed: bool) -> Result<()
     let cues = clock(vec![cues::Sheet::new()], rounds, warming)?;
     let runs = clock(vec![runs::Desk::new(true), runs::Desk::new(false)], rounds / 100 + 1, warming / 10)?;
     let converts = clock(vec![convert::Branches::new()], rounds / 10 + 1, warming / 10)?;
+    let checks = clock(vec![convert::Targets::new()], rounds / 10 + 1, warming / 10)?;
     let grown = [1, 2, 4, 8].into_iter().map(|times| show.times(times)).collect::<Result<Vec<Show>, String>>()?;
     let grow = |names: &[&str]| clock(grown.iter().flat_map(|longer| on(longer, names)).collect(), rounds / 10 + 1, warming / 10);
     let encoded = grow(&["encode-rattle", "encode-rust"])?;
@@ -134,6 +136,7 @@ fn measure(show: &Show, rounds: usize, warming: usize, timed: bool) -> Result<()
     println!("run: rattle {}/step; refused on its last step, one pass without a log, {}/step", runs[0], runs[1]);
     println!("run: {:.1} million steps a second; the longest sheet {:.2} s", 1000.0 / runs[0].median, longest[0].median * 13_107_601.0 / 1e9);
     println!("convert: rattle {}/record", converts[0]);
+    println!("check: rattle {}/record", checks[0]);
     for (what, growth) in [("encodes", encoded), ("records loaded", loaded)] {
         for (longer, figures) in grown.iter().zip(growth.chunks(2)) {
             let n = longer.records.len();

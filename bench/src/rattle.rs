@@ -71,6 +71,13 @@ pub fn cue(cues: &[u8], image: &mut [u8], report: &mut Report) -> Option<usize> 
     (number == FSQ_DONE).then(|| length(report))
 }
 
+/// The length of the image of a show whose near targets are right.
+#[inline]
+pub fn check(file: &[u8], report: &mut Report) -> Option<usize> {
+    let number = unsafe { fsq_check(file.as_ptr(), file.len(), report.as_mut_ptr(), report.len()) };
+    (number == FSQ_DONE).then(|| length(report))
+}
+
 /// The length of the converted file, which stands at the front of out.
 #[inline]
 pub fn convert(file: &[u8], out: &mut [u8], report: &mut Report) -> Option<usize> {

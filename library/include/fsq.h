@@ -4,9 +4,9 @@
  *
  * This header has, in this order: the numbers and offsets; the functions of the library; and over them inline functions, which a program
  * needs no offsets for: operands (fsq_reg, fsq_mem, ..), records (fsq_none, fsq_one, fsq_two), records with a repeat (fsq_with_repeat), calls whose
- * answer is the length (fsq_encode_at, fsq_shortest_at, fsq_list_at, fsq_form_at, fsq_read_at, fsq_load_show, fsq_compile_cues, fsq_convert_show),
+ * answer is the length (fsq_encode_at, fsq_shortest_at, fsq_list_at, fsq_form_at, fsq_read_at, fsq_load_show, fsq_check_show, fsq_compile_cues, fsq_convert_show),
  * the value of a sum (fsq_evaluate_text), a run on the desk (fsq_run_image), fields, names, and the writing of a show file (fsq_write_show).
- * library/examples/one.c, show.c, cues.c, desk.c and convert.c use them.
+ * library/examples/one.c, show.c, check.c, cues.c, desk.c and convert.c use them.
  *
  * The library's functions work on slices that the caller lends: an address and a length. For all of them:
  * - A slice of any length is safe. One of length 0 may have any address that is not null.
@@ -23,7 +23,7 @@
 
 /* The version of this header. Another major one may take a name away, another minor one adds some or raises a limit. */
 #define FSQ_VERSION_MAJOR 2
-#define FSQ_VERSION_MINOR 8
+#define FSQ_VERSION_MINOR 9
 
 #ifdef __cplusplus
 extern "C" {
@@ -57,7 +57,7 @@ enum fsq_answer {
     FSQ_BUDGET_SPENT = 22,                /* The whole budget is carried out, and HLT was not met. */
     FSQ_INVALID_REPEAT = 23,              /* The repeat is not 0, F2 or F3 (hexadecimal), or the operation is no string operation and has one. */
     FSQ_SHIFT_COUNT_OUT_OF_RANGE = 24,    /* A shift or rotate of a show to convert has an immediate count outside 1 to 31. */
-    FSQ_NO_RECORD_AT_TARGET = 25          /* A branch of a show to convert goes to where no record stood, and not to its end. */
+    FSQ_NO_RECORD_AT_TARGET = 25          /* A branch goes to where no record starts, or stood in a show to convert, and not to the end of the show. */
 };
 
 /* Lengths in bytes. */
@@ -105,7 +105,7 @@ enum fsq_report {
     FSQ_REPORT_VALUE_AT = 12,       /* i32: the value of a refusal 5, the distance of a refusal 6; of fsq_evaluate the sum's value */
     FSQ_REPORT_LOW_AT = 16,         /* i32: the limits of a refusal 5 */
     FSQ_REPORT_HIGH_AT = 20,        /* i32 */
-    FSQ_REPORT_RECORD_AT = 24,      /* u32: the record, from 0, that fsq_load or fsq_convert refuses, else FSQ_NO_RECORD */
+    FSQ_REPORT_RECORD_AT = 24,      /* u32: the record, from 0, that fsq_load, fsq_check or fsq_convert refuses, else FSQ_NO_RECORD */
     /* The same, as version 1 named them. */
     FSQ_TOLD_LENGTH_AT = FSQ_REPORT_LENGTH_AT, FSQ_TOLD_SPAN_START_AT = FSQ_REPORT_SPAN_START_AT, FSQ_TOLD_SPAN_END_AT = FSQ_REPORT_SPAN_END_AT,
     FSQ_TOLD_VALUE_AT = FSQ_REPORT_VALUE_AT, FSQ_TOLD_LOW_AT = FSQ_REPORT_LOW_AT, FSQ_TOLD_HIGH_AT = FSQ_REPORT_HIGH_AT,
@@ -336,6 +336,15 @@ uint8_t fsq_cue(const uint8_t *cues, size_t cues_len, uint8_t *image, size_t ima
  *                        FSQ_NOT_CARRIED_OUT where no such instruction is next, FSQ_SLICE_TOO_SHORT where it is OUT and no two bytes of the log are left
  */
 uint8_t fsq_run(const uint8_t *image, size_t image_len, uint32_t budget, uint8_t *log, size_t log_len, uint8_t *out, size_t out_len);
+
+/* Checks the targets of a show: every near one, those of Jcc, E0 to E3, E8, E9 and EB, modulo 65,536, has to be the start of a record or the end of the show.
+ *   file, file_len       the file, as fsq_load's, of any count that it takes
+ *   report, report_len   gets the report where it has 28 bytes, else stays as it is. Its length is that of the image, as of fsq_load, its record the refused one.
+ *                        Of FSQ_NO_RECORD_AT_TARGET its record is the first whose target is neither, its value the target, 0 to 65,535, and its length the
+ *                        record that the target falls into, FSQ_NO_RECORD where no record has a byte there
+ *   answers              FSQ_DONE; else what fsq_load refuses the file with, but for FSQ_SLICE_TOO_SHORT, as no image is written; then FSQ_NO_RECORD_AT_TARGET
+ */
+uint8_t fsq_check(const uint8_t *file, size_t file_len, uint8_t *report, size_t report_len);
 
 /* Converts a show from a 186 module, whose shifts and rotates may have an immediate count, to a show that the 8086 runs: a count of 2 to 31 becomes that many
  * records with count 1, and each Jcc, E0 to E3, E8, E9 and EB goes to where its old target then stands; all else is copied.
@@ -877,6 +886,25 @@ static inline uint64_t fsq_run_log_length(const fsq_run_result_t *result) {
     return fsq_get_u64(result->bytes + FSQ_RUN_LOG_LENGTH_AT);
 }
 
+/* Checks that every near target of a show is the start of a record or the end: fsq_check.
+ *   file, file_len   the file
+ *   report           gets the report, or is null. Of refusal 25 fsq_report_record has the branch, fsq_report_value its target, fsq_report_around the record that
+ *                    the target falls into
+ *   answers          the length of the image, which fsq_load_show then asks for, or a refusal's number made negative
+ */
+static inline int fsq_check_show(const uint8_t *file, size_t file_len, fsq_report_t *report) {
+    fsq_report_t own;
+    uint8_t answer;
+    if (report == NULL)
+        report = &own;
+    if (file == NULL) {
+        file = report->bytes;
+        file_len = 0;
+    }
+    answer = fsq_check(file, file_len, report->bytes, FSQ_REPORT_LENGTH);
+    return answer == FSQ_DONE ? (int) fsq_get_u32(report->bytes + FSQ_REPORT_LENGTH_AT) : -(int) answer;
+}
+
 /* Converts a show from a 186 module to one for the 8086: fsq_convert.
  *   file, file_len   the file
  *   out, out_len     gets the written file at its front; its later bytes stay. FSQ_CONVERTED_LENGTH bytes are enough for every one
@@ -917,7 +945,7 @@ static inline uint32_t fsq_report_span_end(const fsq_report_t *report) {
     return fsq_get_u32(report->bytes + FSQ_REPORT_SPAN_END_AT);
 }
 
-/* The value that a refusal 5 is about, or the distance of a refusal 6; of fsq_evaluate the value of the sum. */
+/* The value that a refusal 5 is about, or the distance of a refusal 6; of fsq_evaluate the value of the sum, of fsq_check the target of a refusal 25. */
 static inline int32_t fsq_report_value(const fsq_report_t *report) {
     return fsq_get_i32(report->bytes + FSQ_REPORT_VALUE_AT);
 }
@@ -935,6 +963,11 @@ static inline int32_t fsq_report_high(const fsq_report_t *report) {
 /* The record, from 0, that fsq_load_show refuses, or FSQ_NO_RECORD. */
 static inline uint32_t fsq_report_record(const fsq_report_t *report) {
     return fsq_get_u32(report->bytes + FSQ_REPORT_RECORD_AT);
+}
+
+/* Of a refusal 25 by fsq_check: the record that the target falls into, or FSQ_NO_RECORD. */
+static inline uint32_t fsq_report_around(const fsq_report_t *report) {
+    return fsq_get_u32(report->bytes + FSQ_REPORT_LENGTH_AT);
 }
 
 /* The strings of a list. */
@@ -1076,7 +1109,7 @@ static inline const char *fsq_refusal_sentence(int answer) {
         "The whole budget is carried out, and HLT was not met.",
         "The repeat is neither REP nor REPNE, or the operation takes none.",
         "A shift or rotate has an immediate count outside 1 to 31.",
-        "A branch goes to where no record stood, and not to the end of the show.",
+        "A branch goes to where no record starts, or stood, and not to the end of the show.",
         "This header does not know the refusal."
     };
     return sentences[fsq_refusal_place(answer)];

@@ -9,6 +9,7 @@ extern __typeof__(fsq_list) right_list;
 extern __typeof__(fsq_form) right_form;
 extern __typeof__(fsq_read) right_read;
 extern __typeof__(fsq_load) right_load;
+extern __typeof__(fsq_check) right_check;
 extern __typeof__(fsq_evaluate) right_evaluate;
 extern __typeof__(fsq_cue) right_cue;
 extern __typeof__(fsq_run) right_run;
@@ -499,6 +500,33 @@ uint8_t fsq_run(const uint8_t *image, size_t n, uint32_t budget, uint8_t *log, s
     }
     if (fault("run-result-of-four-bytes"))
         out[FSQ_RUN_COUNT_AT + 4] = 1;
+    return answer;
+}
+
+uint8_t fsq_check(const uint8_t *file, size_t n, uint8_t *report, size_t k) {
+    uint8_t answer, image[7 * 8000];
+    int reported = k >= FSQ_REPORT_LENGTH;
+    if (fault("check-file-written") && n > 0)
+        ((volatile uint8_t *) file)[0] = file[0];
+    if (fault("check-into-27-bytes") && k == FSQ_REPORT_LENGTH - 1)
+        memset(report, 0, 4);
+    if (fault("check-loads-alone"))
+        return right_load(file, n, image, sizeof image, report, k);
+    answer = right_check(file, n, report, k);
+    if (fault("check-24-for-25") && answer == FSQ_NO_RECORD_AT_TARGET)
+        answer = FSQ_SHIFT_COUNT_OUT_OF_RANGE;
+    if (answer == FSQ_NO_RECORD_AT_TARGET && reported) {
+        if (fault("check-record-around-lost"))
+            fsq_put_u32(report + FSQ_REPORT_LENGTH_AT, 0);
+        if (fault("check-none-as-the-record"))
+            fsq_put_u32(report + FSQ_REPORT_LENGTH_AT, fsq_get_u32(report + FSQ_REPORT_RECORD_AT));
+        if (fault("check-target-lost"))
+            fsq_put_u32(report + FSQ_REPORT_VALUE_AT, 0);
+        if (fault("check-record-0"))
+            fsq_put_u32(report + FSQ_REPORT_RECORD_AT, 0);
+    }
+    if (fault("check-no-length") && answer == FSQ_DONE && reported)
+        fsq_put_u32(report + FSQ_REPORT_LENGTH_AT, 0);
     return answer;
 }
 

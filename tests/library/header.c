@@ -1567,6 +1567,73 @@ static void conversions(void) {
     CHECK(FSQ_SHIFT_COUNT_OUT_OF_RANGE == 24 && FSQ_NO_RECORD_AT_TARGET == 25 && FSQ_CONVERTED_LENGTH == 56009);
 }
 
+/* A show by the inline function and by the library's: the length of the image, or a refusal with its record, and of 25 the target and the record that it falls into.
+ * A report of 27 bytes stays. */
+static void checked(const uint8_t *file, size_t length, int answer, uint32_t record, int32_t target, uint32_t around, int line) {
+    uint8_t told[FSQ_REPORT_LENGTH + 1], untouched[FSQ_REPORT_LENGTH + 1];
+    fsq_report_t report;
+    uint8_t number = (uint8_t) (answer < 0 ? -answer : FSQ_DONE);
+    memset(untouched, 0xA5, sizeof untouched);
+    memset(told, 0xA5, sizeof told);
+    check(fsq_check_show(file, length, &report) == answer && fsq_check_show(file, length, NULL) == answer, "by the inline function", line);
+    check(fsq_report_record(&report) == record && fsq_report_value(&report) == target && fsq_report_around(&report) == around, "record, target and record around", line);
+    check(fsq_check(file, length, told, FSQ_REPORT_LENGTH - 1) == number && memcmp(told, untouched, sizeof told) == 0, "without a whole report", line);
+    check(fsq_check(file, length, told, sizeof told) == number && memcmp(told, report.bytes, sizeof report) == 0 && told[FSQ_REPORT_LENGTH] == 0xA5, "by the library", line);
+}
+
+/* MOV AX,7 at 100 to 102, HLT at 103, a branch at 104. */
+static void targets(void) {
+    static const struct { enum fsq_operation operation; int near; } branches[] = {
+        {FSQ_JE, 0}, {FSQ_JNS, 0}, {FSQ_LOOP, 0}, {FSQ_LOOPZ, 0}, {FSQ_LOOPNZ, 0}, {FSQ_JCXZ, 0}, {FSQ_CALL, 1}, {FSQ_JMP, 1}
+    };
+    static uint8_t file[FSQ_CONVERTED_LENGTH];
+    fsq_record_t from[3] = {fsq_two(FSQ_MOV, fsq_reg(FSQ_AX), fsq_imm(7)), fsq_none(FSQ_HLT), fsq_none(FSQ_HLT)};
+    fsq_report_t report;
+    size_t length, i;
+    for (i = 0; i < sizeof branches / sizeof *branches; i++) {
+        int32_t target, end = branches[i].near ? 107 : 106;
+        for (target = 98; target <= 110; target++) {
+            int right = target == 100 || target == 103 || target == 104 || target == end;
+            uint32_t around = target < 100 || target > end ? FSQ_NO_RECORD : target < 103 ? 0u : 2u;
+            from[2] = fsq_one(branches[i].operation, fsq_imm(target));
+            length = packed(file, 100, from, 3);
+            checked(file, length, right ? (int) end - 100 : -FSQ_NO_RECORD_AT_TARGET, right ? FSQ_NO_RECORD : 2, right ? 0 : target, right ? (uint32_t) (end - 100) : around, __LINE__);
+        }
+    }
+    /* EB, and EA, which has no near target */
+    from[2] = fsq_one(FSQ_JMP, fsq_with_jump(fsq_imm(105), FSQ_SHORT));
+    length = packed(file, 100, from, 3);
+    checked(file, length, -FSQ_NO_RECORD_AT_TARGET, 2, 105, 2, __LINE__);
+    from[2] = fsq_one(FSQ_JMP, fsq_far(0, 101));
+    length = packed(file, 100, from, 3);
+    checked(file, length, 9, FSQ_NO_RECORD, 0, 9, __LINE__);
+    /* The first of two, and a refusal of the loader behind it. */
+    from[0] = fsq_one(FSQ_JE, fsq_imm(101));
+    from[2] = fsq_one(FSQ_JE, fsq_imm(104));
+    length = packed(file, 100, from, 3);
+    checked(file, length, -FSQ_NO_RECORD_AT_TARGET, 0, 101, 0, __LINE__);
+    from[2] = fsq_none(FSQ_INT1);
+    length = packed(file, 100, from, 3);
+    checked(file, length, -FSQ_NOT_SUPPORTED, 2, 0, 0, __LINE__);
+    file[FSQ_HEADER_LENGTH + FSQ_RECORD_LENGTH] = 99;
+    checked(file, length, -FSQ_UNKNOWN_CODE, 1, 0, 0, __LINE__);
+    checked(file, length - 1, -FSQ_WRONG_LENGTH, FSQ_NO_RECORD, 0, 0, __LINE__);
+    file[FSQ_HEADER_VERSION_AT] = 4;
+    checked(file, length - 1, -FSQ_WRONG_VERSION, FSQ_NO_RECORD, 0, 0, __LINE__);
+    file[0] = 0;
+    checked(file, length - 1, -FSQ_NO_MARK, FSQ_NO_RECORD, 0, 0, __LINE__);
+    /* Offsets wrap: MOV at 65,535, 0 and 1; the end of a JE at 65,534 is 0. */
+    from[0] = fsq_two(FSQ_MOV, fsq_reg(FSQ_AX), fsq_imm(7));
+    from[1] = fsq_one(FSQ_JE, fsq_imm(0));
+    length = packed(file, 65535, from, 2);
+    checked(file, length, -FSQ_NO_RECORD_AT_TARGET, 1, 0, 0, __LINE__);
+    from[0] = fsq_one(FSQ_JE, fsq_imm(65536));
+    length = packed(file, 65534, from, 1);
+    checked(file, length, 2, FSQ_NO_RECORD, 0, 2, __LINE__);
+    /* A null file is an empty one. */
+    CHECK(fsq_check_show(NULL, 0, &report) == -FSQ_NO_MARK && fsq_report_record(&report) == FSQ_NO_RECORD && fsq_check_show(NULL, 65, NULL) == -FSQ_NO_MARK);
+}
+
 static void names(void) {
     static const char *const sentences[] = {
         "Nothing is refused.",
@@ -1594,7 +1661,7 @@ static void names(void) {
         "The whole budget is carried out, and HLT was not met.",
         "The repeat is neither REP nor REPNE, or the operation takes none.",
         "A shift or rotate has an immediate count outside 1 to 31.",
-        "A branch goes to where no record stood, and not to the end of the show."
+        "A branch goes to where no record starts, or stood, and not to the end of the show."
     };
     int number = 0, i;
     REFUSAL(DONE); REFUSAL(INVALID_OPERANDS); REFUSAL(OPERAND_SIZE_NOT_SPECIFIED); REFUSAL(OPERAND_SIZES_DO_NOT_MATCH);
@@ -1638,6 +1705,7 @@ int main(void) {
     cues();
     runs();
     conversions();
+    targets();
     names();
     printf("header: %d checks, %d failed\n", checks, failures);
     return failures != 0;

@@ -86,6 +86,7 @@ uint8_t __real_fsq_form(const uint8_t *, size_t, uint16_t, uint8_t *, size_t, ui
 uint8_t __real_fsq_read(const uint8_t *, size_t, uint16_t, uint8_t *, size_t);
 uint8_t __real_fsq_load(const uint8_t *, size_t, uint8_t *, size_t, uint8_t *, size_t);
 uint8_t __real_fsq_evaluate(const uint8_t *, size_t, uint8_t *, size_t);
+uint8_t __real_fsq_check(const uint8_t *, size_t, uint8_t *, size_t);
 uint8_t __real_fsq_cue(const uint8_t *, size_t, uint8_t *, size_t, uint8_t *, size_t);
 uint8_t __real_fsq_convert(const uint8_t *, size_t, uint8_t *, size_t, uint8_t *, size_t);
 uint8_t __real_fsq_run(const uint8_t *, size_t, uint32_t, uint8_t *, size_t, uint8_t *, size_t);
@@ -96,6 +97,7 @@ uint8_t __wrap_fsq_form(const uint8_t *, size_t, uint16_t, uint8_t *, size_t, ui
 uint8_t __wrap_fsq_read(const uint8_t *, size_t, uint16_t, uint8_t *, size_t);
 uint8_t __wrap_fsq_load(const uint8_t *, size_t, uint8_t *, size_t, uint8_t *, size_t);
 uint8_t __wrap_fsq_evaluate(const uint8_t *, size_t, uint8_t *, size_t);
+uint8_t __wrap_fsq_check(const uint8_t *, size_t, uint8_t *, size_t);
 uint8_t __wrap_fsq_cue(const uint8_t *, size_t, uint8_t *, size_t, uint8_t *, size_t);
 uint8_t __wrap_fsq_convert(const uint8_t *, size_t, uint8_t *, size_t, uint8_t *, size_t);
 uint8_t __wrap_fsq_run(const uint8_t *, size_t, uint32_t, uint8_t *, size_t, uint8_t *, size_t);
@@ -135,6 +137,11 @@ uint8_t __wrap_fsq_evaluate(const uint8_t *text, size_t n, uint8_t *r, size_t k)
     return __real_fsq_evaluate(text, n, r, k);
 }
 
+uint8_t __wrap_fsq_check(const uint8_t *file, size_t n, uint8_t *r, size_t k) {
+    handed("fsq_check", file, n, r, 0, r);
+    return __real_fsq_check(file, n, r, k);
+}
+
 uint8_t __wrap_fsq_cue(const uint8_t *cues, size_t n, uint8_t *image, size_t m, uint8_t *r, size_t k) {
     handed("fsq_cue", cues, n, image, m, r);
     return __real_fsq_cue(cues, n, image, m, r, k);
@@ -150,14 +157,14 @@ uint8_t __wrap_fsq_convert(const uint8_t *file, size_t n, uint8_t *to, size_t m,
     return __real_fsq_convert(file, n, to, m, r, k);
 }
 
-enum function { ENCODE, LIST, READ, LOAD, FORM, EVALUATE, SHORTEST, CUE, CONVERT };
+enum function { ENCODE, LIST, READ, LOAD, FORM, EVALUATE, SHORTEST, CUE, CONVERT, CHECK };
 
 /* The bytes that one of what a function counts has. */
-static const size_t each[] = {1, FSQ_ENTRY_LENGTH, 0, 1, 1, 0, 1, 1, 1};
+static const size_t each[] = {1, FSQ_ENTRY_LENGTH, 0, 1, 1, 0, 1, 1, 1, 0};
 
 /* One call. `bytes` is what it reads; the answer is compared with `first`, the one that a whole report came with, where that is not negative. */
 static int call(enum function function, const uint8_t *bytes, size_t length, uint16_t offset, size_t out_len, size_t report_len, int first) {
-    static const char *names[] = {"fsq_encode", "fsq_list", "fsq_read", "fsq_load", "fsq_form", "fsq_evaluate", "fsq_shortest", "fsq_cue", "fsq_convert"};
+    static const char *names[] = {"fsq_encode", "fsq_list", "fsq_read", "fsq_load", "fsq_form", "fsq_evaluate", "fsq_shortest", "fsq_cue", "fsq_convert", "fsq_check"};
     room to = function == LOAD ? image : function == CONVERT ? whole : out;
     uint8_t *o = lend(to, out_len), *r = lend(report, report_len);
     const char *wrong = NULL;
@@ -168,6 +175,7 @@ static int call(enum function function, const uint8_t *bytes, size_t length, uin
         : function == FORM ? fsq_form(bytes, length, offset, o, out_len, r, report_len)
         : function == READ ? fsq_read(bytes, length, offset, o, out_len)
         : function == EVALUATE ? fsq_evaluate(bytes, length, r, report_len)
+        : function == CHECK ? fsq_check(bytes, length, r, report_len)
         : function == CUE ? fsq_cue(bytes, length, o, out_len, r, report_len)
         : function == CONVERT ? fsq_convert(bytes, length, o, out_len, r, report_len)
         : fsq_load(bytes, length, o, out_len, r, report_len);
@@ -209,7 +217,7 @@ enum taken { BYTES, RECORD = FSQ_RECORD_LENGTH, REPEAT = FSQ_REPEAT_RECORD_LENGT
 /* An inline function beside the library's. `out_len` is that of ENCODE, SHORTEST, LOAD and CONVERT; the others write a struct. Null are, by the bits of `nulls`, what is
  * read (with its length), what is written (with its length) and the report. */
 static void call_inline(enum function function, enum taken by, const uint8_t *bytes, size_t length, uint16_t offset, size_t out_len, unsigned nulls) {
-    static const char *names[] = {"fsq_encode_at", "fsq_list_at", "fsq_read_at", "fsq_load_show", "fsq_form_at", "", "fsq_shortest_at", "", "fsq_convert_show"};
+    static const char *names[] = {"fsq_encode_at", "fsq_list_at", "fsq_read_at", "fsq_load_show", "fsq_form_at", "", "fsq_shortest_at", "", "fsq_convert_show", "fsq_check_show"};
     static uint8_t right[WHOLE];
     room to = function == LOAD ? image : function == CONVERT ? whole : out;
     uint8_t right_report[FSQ_REPORT_LENGTH] = {0}, number;
@@ -228,6 +236,7 @@ static void call_inline(enum function function, enum taken by, const uint8_t *by
         : function == FORM ? fsq_form(bytes, given, offset, right, lent, right_report, sizeof right_report)
         : function == READ ? fsq_read(bytes, given, offset, right, lent)
         : function == CONVERT ? fsq_convert(bytes, given, right, lent, right_report, sizeof right_report)
+        : function == CHECK ? fsq_check(bytes, given, right_report, sizeof right_report)
         : fsq_load(bytes, given, right, lent, right_report, sizeof right_report);
     answer = function == ENCODE && by == RECORD ? fsq_encode_at((const fsq_record_t *) from, offset, o, out_len, r)
         : function == ENCODE && by == REPEAT ? fsq_encode_repeat_at((const fsq_repeat_record_t *) from, offset, o, out_len, r)
@@ -243,6 +252,7 @@ static void call_inline(enum function function, enum taken by, const uint8_t *by
         : function == FORM ? fsq_form_bytes_at(from, length, offset, (fsq_line_t *) o, r)
         : function == READ ? fsq_read_at(from, length, offset, (fsq_reading_t *) o)
         : function == CONVERT ? fsq_convert_show(from, length, o, out_len, r)
+        : function == CHECK ? fsq_check_show(from, length, r)
         : fsq_load_show(from, length, o, out_len, r);
     calls++;
     refusals += number != FSQ_DONE;
@@ -413,6 +423,8 @@ static void convert_all(void) {
             if (change % 6 == 5)
                 length = below((uint32_t) length + 1);
             at = lend_in(file, length, 0);
+            call_all(CHECK, at, length, 0);
+            call_inline_all(CHECK, BYTES, at, length, 0);
             for (size_t more = 0; more < 4; more++) {
                 size_t out_len = more == 3 || written > FSQ_CONVERTED_LENGTH ? below(FSQ_CONVERTED_LENGTH + 1) : written + more - 1;
                 call_all(CONVERT, at, length, out_len);
@@ -639,6 +651,8 @@ int main(int argc, char **argv) {
         size_t file_len = i % 4 == 0 ? length : below((uint32_t) length + 8), image_len = i % 3 == 0 ? IMAGE : below((uint32_t) (FSQ_STRING_LENGTH * count));
         call_all(LOAD, lend_in(file, file_len, i % 2), file_len, image_len);
         call_inline_all(LOAD, BYTES, lend_in(file, file_len, i % 2), file_len, image_len);
+        call_all(CHECK, lend_in(file, file_len, i % 2), file_len, 0);
+        call_inline_all(CHECK, BYTES, lend_in(file, file_len, i % 2), file_len, 0);
     }
     printf("slices: %lu calls, %lu refused, %lu failed\n", calls, refusals, failures);
     return failures != 0 || refusals == 0 || refusals == calls;

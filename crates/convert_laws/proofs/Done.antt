@@ -37,7 +37,7 @@ isnt-false : (b : Bool) → isnt b ≡ false → b ≡ true
 isnt-false true e = refl
 isnt-false false e = false-true (sym e)
 
-stray-no : (starts : ℕ → ℕ) (file : List ℕ) (n k : ℕ) → isStray starts n (insnAt file k) ≡ false → isBranch (branchOf (insnAt file k)) ≡ true → placeOf starts n (insnAt file k) ≤ n
+pub stray-no : (starts : ℕ → ℕ) (file : List ℕ) (n k : ℕ) → isStray starts n (insnAt file k) ≡ false → isBranch (branchOf (insnAt file k)) ≡ true → placeOf starts n (insnAt file k) ≤ n
 unfolding isStray
 stray-no starts file n k e b = ltb-false n (placeOf starts n (insnAt file k)) (rw b at e)
 

@@ -141,7 +141,7 @@ fn place_at(starts: &[u16], n: usize, target: u16) -> usize
 
 // Where a branch goes: one of n records, the end, or n + 1.
 fn place_of(insn: InstructionData, n: usize, starts: &[u16]) -> usize
-    requires { ⌜ (n ≤ 1000) × (n + 1 ≤ length (now starts)) ⌝ }
+    requires { ⌜ (n ≤ mostRecords) × (n + 1 ≤ length (now starts)) ⌝ }
     ensures { λ r. ⌜ r ≡ placeOf (place (now (starts .entry))) n insn ⌝ }
 {
     let dst = insn.opers[0];
@@ -161,7 +161,7 @@ pub fn is_branch(branch: Branch) -> bool
 
 // Does a branch go to no place?
 fn is_stray(insn: InstructionData, n: usize, starts: &[u16]) -> bool
-    requires { ⌜ (n ≤ 1000) × (n + 1 ≤ length (now starts)) ⌝ }
+    requires { ⌜ (n ≤ mostRecords) × (n + 1 ≤ length (now starts)) ⌝ }
     ensures { λ r. ⌜ r ≡ isStray (place (now (starts .entry))) n insn ⌝ }
 {
     if is_branch(branch_of(insn)) {
@@ -173,7 +173,7 @@ fn is_stray(insn: InstructionData, n: usize, starts: &[u16]) -> bool
 
 // The first that does, or n.
 pub fn first_stray(file: &[u8], n: usize, starts: &[u16]) -> usize
-    requires { ⌜ (length (now file) ≡ recordPlace (now file) n) × (n ≤ 1000) × (n + 1 ≤ length (now starts)) ⌝ }
+    requires { ⌜ (length (now file) ≡ recordPlace (now file) n) × (n ≤ mostRecords) × (n + 1 ≤ length (now starts)) ⌝ }
     ensures { λ r. ⌜ r ≡ firstStray (place (now (starts .entry))) (insnAt (now (file .entry))) n ⌝ }
 {
     let mut k = 0;

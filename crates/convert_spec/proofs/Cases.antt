@@ -35,28 +35,28 @@ use Rattle.convert_spec.specs.Written.{newImm, newRecord, records, writt
 use Rattle.convert_spec.specs.Converting.{isOtherVersion, showConverted, converted, sliceAfter}
 
 -- ---- files by hand
-abbrev u16 : ℕ → List ℕ
+abbrev pub u16 : ℕ → List ℕ
 u16 n = n % 256 ∷ n / 256 % 256 ∷ []
 
-abbrev i32 : ℕ → List ℕ
+abbrev pub i32 : ℕ → List ℕ
 i32 n = u16 n ++ u16 (n / 65536)
 
 -- kind, size, displacement size, jump kind, mode, r/m, immediate, displacement; no prefix and no span
-abbrev operand : ℕ → ℕ → ℕ → ℕ → ℕ → ℕ → ℕ → ℕ → List ℕ
+abbrev pub operand : ℕ → ℕ → ℕ → ℕ → ℕ → ℕ → ℕ → ℕ → List ℕ
 operand k s ds j m r i d = k ∷ s ∷ 0 ∷ ds ∷ j ∷ m ∷ r ∷ (i32 i ++ (i32 d ++ replicate 8 0))
 
 -- AX, with a value that is not used
-abbrev AX : ℕ → List ℕ
+abbrev pub AX : ℕ → List ℕ
 AX i = operand 1 2 0 0 3 0 i 0
 
 abbrev CL : ℕ → List ℕ
 CL i = operand 1 1 0 0 3 1 i 0
 
-abbrev imm : ℕ → List ℕ
+abbrev pub imm : ℕ → List ℕ
 imm n = operand 0 0 0 0 0 0 n 0
 
 -- a target with its jump kind: 2 near, 3 short
-abbrev target : ℕ → ℕ → List ℕ
+abbrev pub target : ℕ → ℕ → List ℕ
 target j n = operand 0 0 0 j 0 0 n 0
 
 -- [4], of no stated size
@@ -64,38 +64,38 @@ abbrev unstated : List ℕ
 unstated = operand 3 0 2 0 0 6 0 4
 
 -- operation, operand count, operands; the instruction's span is 9 to 9
-abbrev rec : ℕ → ℕ → List ℕ → List ℕ → List ℕ
+abbrev pub rec : ℕ → ℕ → List ℕ → List ℕ → List ℕ
 rec op n a b = op ∷ n ∷ (i32 9 ++ (i32 9 ++ (a ++ b)))
 
 abbrev shl : ℕ → List ℕ
 shl n = rec 35 2 (AX 0) (imm n)
 
-abbrev je : ℕ → List ℕ
+abbrev pub je : ℕ → List ℕ
 je t = rec 61 1 (imm t) (imm 0)
 
-abbrev call : ℕ → List ℕ
+abbrev pub call : ℕ → List ℕ
 call t = rec 58 1 (imm t) (imm 0)
 
-abbrev hlt : List ℕ
+abbrev pub hlt : List ℕ
 hlt = rec 93 0 (imm 0) (imm 0)
 
 -- INT1, which is refused
-abbrev int1 : List ℕ
+abbrev pub int1 : List ℕ
 int1 = rec 82 0 (imm 0) (imm 0)
 
 -- a code that is not known
-abbrev unknown : List ℕ
+abbrev pub unknown : List ℕ
 unknown = rec 99 0 (imm 0) (imm 0)
 
-abbrev joined : List (List ℕ) → List ℕ
+abbrev pub joined : List (List ℕ) → List ℕ
 joined [] = []
 joined (r ∷ rs) = r ++ joined rs
 
 -- version, origin, records
-abbrev of : ℕ → ℕ → List (List ℕ) → List ℕ
+abbrev pub of : ℕ → ℕ → List (List ℕ) → List ℕ
 of v origin rs = 0x46 ∷ 0x53 ∷ 0x51 ∷ (u16 v ++ (u16 origin ++ (u16 (length rs) ++ joined rs)))
 
-abbrev show : ℕ → List (List ℕ) → List ℕ
+abbrev pub show : ℕ → List (List ℕ) → List ℕ
 show = of 1
 
 -- into room enough
@@ -106,7 +106,7 @@ answers file = converted file 65536
 abbrev Becomes : List ℕ → List ℕ → Type 0
 Becomes file to = sliceAfter file (replicate (length to) 7 ++ (8 ∷ [])) ≡ to ++ (8 ∷ [])
 
-abbrev at : ℕ → Span
+abbrev pub at : ℕ → Span
 at s = record { start = s; end = s }
 
 -- ---- what is written

@@ -1,4 +1,4 @@
--- What crosses, byte by byte: reports of the loader's answers, of the converter's and of the lister's refusals, of sums and of cues, the result of a run, and a read instruction with each
+-- What crosses, byte by byte: reports of the loader's answers, of the check's, of the converter's and of the lister's refusals, of sums and of cues, the result of a run, and a read instruction with each
 -- extension and kind of operand.
 -- Assumes nothing.
 use mathlib.Core.Path.{_≡_, refl}
@@ -44,6 +44,8 @@ use Rattle.foreign.specs.ShortestRecord.{responseShortest}
 use Rattle.shortest_encoder.specs.Shortest.{shortestAnswer}
 use Rattle.foreign.specs.LoadShow.{responseLoadError, responseLoaded}
 use Rattle.foreign.specs.ConvertShow.{responseConvertError, responseConverted}
+use Rattle.foreign.specs.CheckShow.{responseChecked}
+use Rattle.check_spec.specs.declared.Checked.the-variants as Ck
 use Rattle.convert_spec.specs.declared.ConvertError.{ConvertError}
 use Rattle.convert_spec.specs.declared.ConvertError.the-variants as Ce
 use Rattle.convert_spec.specs.declared.Converted.the-variants as Cv
@@ -71,6 +73,20 @@ its-number R.WrongVersion = refl
 its-number R.WrongLength = refl
 its-number (R.UnknownCode k) = refl
 its-number (R.Record k e) = refl
+
+-- ---- the answers of the check of targets
+record Checks : Type 0 where
+  passes : reportBytes (responseChecked (Ck.Lands 56000)) ≡ (0xC0 ∷ 0xDA ∷ 0 ∷ 0 ∷ []) ++ (zeros4 ++ (zeros4 ++ (zeros12 ++ ones4)))
+  passes-number : responseChecked (Ck.Lands 56000) .number ≡ 0
+  inside : responseChecked (Ck.Inside 999 65535 7999) .number ≡ 25
+  inside-report : reportBytes (responseChecked (Ck.Inside 999 65535 7999)) ≡ (0x3F ∷ 0x1F ∷ 0 ∷ 0 ∷ []) ++ (zeros4 ++ (zeros4 ++ (0xFF ∷ 0xFF ∷ 0 ∷ 0 ∷ 0 ∷ 0 ∷ 0 ∷ 0 ∷ 0 ∷ 0 ∷ 0 ∷ 0 ∷ 0xE7 ∷ 3 ∷ 0 ∷ 0 ∷ [])))
+  outside : responseChecked (Ck.Outside 1 257) .number ≡ 25
+  outside-report : reportBytes (responseChecked (Ck.Outside 1 257)) ≡ ones4 ++ (zeros4 ++ (zeros4 ++ (1 ∷ 1 ∷ 0 ∷ 0 ∷ 0 ∷ 0 ∷ 0 ∷ 0 ∷ 0 ∷ 0 ∷ 0 ∷ 0 ∷ 1 ∷ 0 ∷ 0 ∷ 0 ∷ [])))
+  of-load : reportBytes (responseChecked (Ck.Refused (R.UnknownCode 999))) ≡ zeros12 ++ (zeros12 ++ (0xE7 ∷ 3 ∷ 0 ∷ 0 ∷ []))
+
+checks : Checks
+unfolding u32Bytes
+checks = record { passes = refl; passes-number = refl; inside = refl; inside-report = refl; outside = refl; outside-report = refl; of-load = refl }
 
 -- ---- the converter's answers
 record Conversions : Type 0 where

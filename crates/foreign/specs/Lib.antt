@@ -5,6 +5,7 @@ pub mod EvaluateText
 pub mod ListRecord
 pub mod LoadShow
 pub mod ConvertShow
+pub mod CheckShow
 pub mod ReadBytes
 pub mod RunImage
 pub mod FormRecord

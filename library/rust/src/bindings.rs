@@ -44,6 +44,7 @@ extern "C" {
     pub fn fsq_evaluate(text: *const u8, text_len: usize, report: *mut u8, report_len: usize) -> u8;
     pub fn fsq_cue(cues: *const u8, cues_len: usize, image: *mut u8, image_len: usize, report: *mut u8, report_len: usize) -> u8;
     pub fn fsq_run(image: *const u8, image_len: usize, budget: u32, log: *mut u8, log_len: usize, out: *mut u8, out_len: usize) -> u8;
+    pub fn fsq_check(file: *const u8, file_len: usize, report: *mut u8, report_len: usize) -> u8;
     pub fn fsq_convert(file: *const u8, file_len: usize, out: *mut u8, out_len: usize, report: *mut u8, report_len: usize) -> u8;
 }
 

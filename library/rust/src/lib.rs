@@ -96,6 +96,8 @@
 //! # Ok::<(), fsq::Refusal>(())
 //! ```
 //!
+//! [`check`] says whether every near branch of a show goes to the start of a record or to the end.
+//!
 //! [`convert`] makes a show from a 186 module one that the 8086 runs; its shifts by a count become shifts by 1, and its branches keep their targets.
 //!
 //! The functions keep nothing between calls, and several threads may call them at once. They are proved; the text of instructions and operands
@@ -123,6 +125,7 @@ mod library;
 mod listing;
 mod operand;
 mod operation;
+mod plain;
 mod reading;
 mod refusal;
 mod run;
@@ -145,9 +148,9 @@ pub use operation::Operation;
 pub use reading::{read, Extension, Part, Reading};
 pub use refusal::{Found, Reason, Refusal};
 pub use run::{run, Pair, Run};
+pub use show::{check, records, Record, Records, Show};
 #[cfg(feature = "alloc")]
 pub use show::{load, show_file};
-pub use show::{Record, Records, Show};
 pub use sum::evaluate;
 pub use text::ParseError;
 

@@ -4,10 +4,10 @@
 //! functions write nothing outside of them, and only what a call's contract says.
 
 use crate::bindings::{
-    fsq_convert, fsq_cue, fsq_encode, fsq_evaluate, fsq_form, fsq_list, fsq_load, fsq_read, fsq_run, fsq_shortest, FSQ_DONE,
-    FSQ_FORM_LENGTH, FSQ_HEADER_LENGTH, FSQ_INVALID_REPEAT, FSQ_NO_RECORD, FSQ_READING_LENGTH, FSQ_REPORT_HIGH_AT, FSQ_REPORT_LENGTH,
-    FSQ_REPORT_LENGTH_AT, FSQ_REPORT_LOW_AT, FSQ_REPORT_RECORD_AT, FSQ_REPORT_SPAN_END_AT, FSQ_REPORT_SPAN_START_AT, FSQ_REPORT_VALUE_AT,
-    FSQ_RUN_COUNT_AT, FSQ_RUN_LOG_LENGTH_AT, FSQ_RUN_RESULT_LENGTH, FSQ_SLICE_TOO_SHORT, FSQ_STRING_LENGTH,
+    fsq_check, fsq_convert, fsq_cue, fsq_encode, fsq_evaluate, fsq_form, fsq_list, fsq_load, fsq_read, fsq_run, fsq_shortest, FSQ_DONE,
+    FSQ_FORM_LENGTH, FSQ_HEADER_LENGTH, FSQ_INVALID_REPEAT, FSQ_NO_RECORD, FSQ_NO_RECORD_AT_TARGET, FSQ_READING_LENGTH, FSQ_REPORT_HIGH_AT,
+    FSQ_REPORT_LENGTH, FSQ_REPORT_LENGTH_AT, FSQ_REPORT_LOW_AT, FSQ_REPORT_RECORD_AT, FSQ_REPORT_SPAN_END_AT, FSQ_REPORT_SPAN_START_AT,
+    FSQ_REPORT_VALUE_AT, FSQ_RUN_COUNT_AT, FSQ_RUN_LOG_LENGTH_AT, FSQ_RUN_RESULT_LENGTH, FSQ_SLICE_TOO_SHORT, FSQ_STRING_LENGTH,
 };
 use crate::refusal::{question_of, Found, Reason, Refusal};
 use crate::show::record_length;
@@ -84,6 +84,24 @@ pub fn load(file: &[u8], image: &mut [u8]) -> Result<usize, Refusal> {
     answered(number, &report, |refusal| {
         let record = record_of(&refusal, file);
         Refusal { found: Found::in_file(number, record, file), question: record.and_then(|record| question_of(number, record)), ..refusal }
+    })
+}
+
+/// The number of bytes of the image of a show whose near targets are right.
+pub fn check(file: &[u8]) -> Result<usize, Refusal> {
+    let mut report = [0; FSQ_REPORT_LENGTH];
+    // SAFETY: as in read.
+    let number = unsafe { fsq_check(file.as_ptr(), file.len(), report.as_mut_ptr(), report.len()) };
+    answered(number, &report, |refusal| {
+        let record = record_of(&refusal, file);
+        let found = match number {
+            FSQ_NO_RECORD_AT_TARGET => Some(Found::Target {
+                target: field(&report, FSQ_REPORT_VALUE_AT) as u16,
+                inside: Some(field(&report, FSQ_REPORT_LENGTH_AT)).filter(|&record| record != FSQ_NO_RECORD),
+            }),
+            _ => Found::in_file(number, record, file),
+        };
+        Refusal { found, question: record.and_then(|record| question_of(number, record)), ..refusal }
     })
 }
 

@@ -69,13 +69,14 @@ pub enum Reason {
     InvalidRepeat,
     /// 24: a shift or rotate of a show to [`convert`](crate::convert_into) has an immediate count outside 1 to 31.
     ShiftCountOutOfRange,
-    /// 25: a branch of a show to convert goes to where no record stood, and not to its end.
+    /// 25: a branch goes to where no record starts, or stood in a show to convert, and not to the end of the show.
     NoRecordAtTarget,
     /// Another number: one that the library has and this crate does not know.
     Other(u8),
 }
 
-/// What the input has where it is refused with 13 to 15. The library answers the number alone: this crate looks into the refused input.
+/// What the input has where it is refused with 13 to 15, or with 25 by [`check`](crate::check). Of the first the library answers the number alone: this
+/// crate looks into the refused input.
 #[derive(Clone, Copy, Debug, PartialEq, Eq, Hash)]
 #[non_exhaustive]
 pub enum Found {
@@ -117,6 +118,13 @@ pub enum Found {
         value: u8,
         /// the highest that exists; the lowest is 0
         high: u8,
+    },
+    /// 25: the target of a branch
+    Target {
+        /// its offset
+        target: u16,
+        /// the record that has a byte there, and not its first; nothing where no record has one
+        inside: Option<u32>,
     },
 }
 
@@ -206,6 +214,8 @@ impl fmt::Display for Found {
             }
             Found::FileLength { length, expected } => write!(f, "the show file has {length} bytes, and by its count {expected}"),
             Found::Code { name, at, value, high } => write!(f, "{name} {value}, at byte {at} of the record, is outside 0..{high}"),
+            Found::Target { target, inside: Some(record) } => write!(f, "the target {target} is inside record {record}, behind its start"),
+            Found::Target { target, inside: None } => write!(f, "the target {target} is outside the show"),
         }
     }
 }
@@ -220,7 +230,7 @@ pub struct Refusal {
     pub span: Option<Span>,
     /// The record of the file, from 0; of a refused [`convert`](crate::convert_into) it may be one of the converted file.
     pub record: Option<u32>,
-    /// What the input has, for the reasons 13 to 15.
+    /// What the input has, for the reasons 13 to 15, and 25 of [`check`](crate::check).
     pub found: Option<Found>,
     pub(crate) question: Option<u8>,
 }

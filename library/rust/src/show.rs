@@ -263,3 +263,55 @@ impl<'a> Iterator for Records<'a> {
 impl ExactSizeIterator for Records<'_> {}
 
 impl FusedIterator for Records<'_> {}
+
+/// Checks that every near target of a show file, those of Jcc, the loops, CALL and JMP, is the start of a record or the end of the show, and answers the
+/// length of its image. Where this passes, every near branch in the image lands on the first byte of a record's part of it, or on its end: proved.
+///
+/// Refused are what the loader refuses, and with 25 the first record whose target is neither; [`Found`](crate::Found) has the target and the record that
+/// it falls into.
+///
+/// ```
+/// # #[cfg(feature = "alloc")] {
+/// use fsq::{check, show_file, Found, Instruction, Reason};
+///
+/// let show = |target: i32| {
+///     let parse = |text: &str| text.parse::<Instruction>().unwrap();
+///     show_file(256, &[parse("MOV CX,10"), parse("NOP"), parse(&format!("LOOP {target}"))])
+/// };
+/// assert_eq!(check(&show(259))?, 6);
+/// assert_eq!(check(&show(262))?, 6);
+/// let refusal = check(&show(258)).unwrap_err();
+/// assert_eq!((refusal.reason, refusal.record), (Reason::NoRecordAtTarget, Some(2)));
+/// assert_eq!(refusal.found, Some(Found::Target { target: 258, inside: Some(0) }));
+/// assert_eq!(refusal.to_string(), "refusal 25 of record 2: the target 258 is inside record 0, behind its start");
+/// # }
+/// # Ok::<(), fsq::Refusal>(())
+/// ```
+pub fn check(file: &[u8]) -> Result<usize, Refusal> {
+    library::check(file)
+}
+
+/// The origin and the records of a show file, also of one that is refused for a record; [`Instruction::from_record`](crate::Instruction::from_record)
+/// and [`encode_record`](crate::encode_record) take each. A file that is refused as a whole, with 12 to 14, has none.
+///
+/// ```
+/// # #[cfg(feature = "alloc")] {
+/// use fsq::{records, show_file, Instruction, Operation, Reason};
+///
+/// // Document 01's bench sheet: JE at 0 to 130 is refused.
+/// let file = show_file(0, &[Instruction::one(Operation::JE, 130), Instruction::none(Operation::AAM)]);
+/// let (origin, records) = records(&file)?;
+/// assert_eq!((origin, records.len()), (0, 2));
+/// assert_eq!(fsq::records(b"FSQ").unwrap_err().reason, Reason::WrongLength);
+/// # }
+/// # Ok::<(), fsq::Refusal>(())
+/// ```
+pub fn records(file: &[u8]) -> Result<(u16, ChunksExact<'_, u8>), Refusal> {
+    match library::load(file, &mut []) {
+        Err(refusal) if refusal.record.is_none() => Err(refusal),
+        _ => {
+            let origin = u16::from_le_bytes([file[FSQ_HEADER_ORIGIN_AT], file[FSQ_HEADER_ORIGIN_AT + 1]]);
+            Ok((origin, file[FSQ_HEADER_LENGTH..].chunks_exact(record_length(file))))
+        }
+    }
+}

@@ -1,3 +1,4 @@
+use native.Mathlib.Omega.{arith}
 use mathlib.Core.Path.{refl}
 use lib.ListN.{length}
 use denote.Ref.{now}
@@ -13,7 +14,7 @@ first-stray-requires c κs =
     let b = c .before .before .before .before .before in
     let f = now (b .args .file) in
     let h = b .args .header in
-    (exact f h (b .pre .show), b .pre .show .few, b .pre .room .0)
+    (exact f h (b .pre .show), omega (arith, b .pre .show .few), b .pre .room .0)
 
 returns : tie.Need-returns
 returns c =
