@@ -1,5 +1,5 @@
 #!/usr/bin/env python3
-"""port_lines.py [--write]: looks that docs/PORT.md names each item where it stands: its line in the Rust, by tests/rust_lines.txt, and its crate or file here. Every function of
+"""port_lines.py [--write]: looks that docs/PORT-OTHER.md names each item where it stands: its line in the Rust, by tests/rust_lines.txt, and its crate or file here. Every function of
 encoder/mod.rs and encoder/gen.rs must have a row. Where the Rust's sources are here (MRC_SRC, else ../shared/docs/src), rust_lines.txt is compared with them too;
 --write writes it from them."""
 import os, pathlib, re, sys
@@ -46,7 +46,7 @@ def main():
         wrong.append("tests/rust_lines.txt is not the Rust's: tools/port_lines.py --write")
     words = {(f, int(n)): set(w) for f, n, *w in (line.split() for line in stored)}
     file, before, rows = None, None, {f: [] for f in FILES}
-    for line in (ROOT / 'docs/PORT.md').read_text().split('\n'):
+    for line in (ROOT / 'docs/PORT-OTHER.md').read_text().split('\n'):
         section = re.match(r'## (\S+\.rs) ', line)
         file = section[1] if section else file
         row = re.match(r'\| (\d+) \| (.*?) \| (.*) \|$', line)
@@ -65,7 +65,7 @@ def main():
     for what in wrong:
         print(f'port: {what}')
     beside = "beside the Rust's sources" if RUST.is_dir() else "by the stored lines of the Rust, whose sources are not here"
-    print(f'port: {sum(map(len, rows.values()))} items of docs/PORT.md, {beside}: {len(wrong)} do not stand where it says')
+    print(f'port: {sum(map(len, rows.values()))} items of docs/PORT-OTHER.md, {beside}: {len(wrong)} do not stand where it says')
     sys.exit(1 if wrong else None)
 
 
