@@ -1,4 +1,6 @@
 // The limits of a value, what it leaves in a byte or a word, and the distances of branches: the casts and subtractions that 000 and 003 write in place.
+#![tactic(auto)]
+
 ghost use Rattle.std.specs.Prelude.{◌≡◌, ◌<◌, true, pos, negsuc, int_le, unsigned_abs};
 ghost use Rattle.std.specs.Int.Signed.{mag};
 ghost use Rattle.mrc_compiler.specs.Values.{within, mod_z};
@@ -95,7 +97,7 @@ fn wrap_distance(d: i64) -> i32
 }
 
 // What a short branch emits, or the distance that does not fit.
-#[derive(Drop)]
+#[derive(Clone, Copy)]
 pub enum Relative {
     Short(u8),
     Far(i32),

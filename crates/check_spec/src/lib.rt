@@ -1,7 +1,9 @@
 // What checking the targets of a show answers (REFERENCE 17). No code: specs and proofs only.
+#![tactic(auto)]
+
 use show_file::LoadError;
 
-#[derive(Drop)]
+#[derive(Clone, Copy)]
 pub enum Checked {
     // Every near target is the start of a record or the end of the show; the length of the image.
     Lands(usize),

@@ -1,4 +1,6 @@
 // The passes over a show from a 186 module: its counts, its old starts and what is gained before each, its targets, the written file measured (REFERENCE 16).
+#![tactic(auto)]
+
 ghost use Rattle.std.specs.Prelude.{◌≡◌, true, ◌+◌, ◌≤◌, eqb, length, get_or};
 ghost use Rattle.mrc_compiler.specs.Choose.{pick};
 ghost use Rattle.encode_spec.specs.Records.{dst};
@@ -70,7 +72,7 @@ pub fn first_miscounted(file: &[u8], n: usize) -> usize
     n
 }
 
-#[derive(Drop)]
+#[derive(Clone, Copy)]
 pub enum Laid {
     // Each record is accepted.
     All,

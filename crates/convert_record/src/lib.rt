@@ -1,4 +1,6 @@
 // A record that is converted: its count, its bytes, its target, and the records that it becomes (REFERENCE 16).
+#![tactic(auto)]
+
 ghost use Rattle.std.specs.Prelude.{◌≡◌, true, ◌+◌, ◌*◌, ◌<◌, ◌≤◌, pos, length};
 ghost use Rattle.std.specs.Int.Signed.{mag};
 ghost use Rattle.mrc_compiler.specs.Choose.{by_jump};

@@ -1,11 +1,13 @@
 // What converting a show from a 186 module answers (REFERENCE 16).
+#![tactic(auto)]
+
 ghost use Rattle.std.specs.Prelude.{◌≡◌};
 ghost use Rattle.convert_spec.specs.Refusals.{number_of};
 
 use show_file::LoadError;
 
 // What a record's form holds of its near target.
-#[derive(Drop)]
+#[derive(Clone, Copy)]
 pub enum Branch {
     None,
 
@@ -16,7 +18,7 @@ pub enum Branch {
     Near,
 }
 
-#[derive(Drop)]
+#[derive(Clone, Copy)]
 pub enum ConvertError {
     // The loader's, of the file or of the written one, and the encoder's, of a record at its old start.
     Load(LoadError),
@@ -45,7 +47,7 @@ impl ConvertError {
     }
 }
 
-#[derive(Drop)]
+#[derive(Clone, Copy)]
 pub enum Converted {
     // The length of the written file.
     File(usize),

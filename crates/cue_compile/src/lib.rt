@@ -1,4 +1,6 @@
 // Compiles a list of cues to the image of a field module (REFERENCE 14).
+#![tactic(auto)]
+
 ghost use Rattle.std.specs.Prelude.{◌≡◌, true, ◌++◌, ◌+◌, ◌*◌, ◌%◌, ◌<◌, ◌≤◌, pos, length, take, drop};
 ghost use Rattle.mrc_compiler.specs.Builders.{immediate_operand};
 ghost use Rattle.encode_spec.specs.Answer.{answer};
@@ -11,14 +13,14 @@ use mrc_compiler::encoder::{Encoded, InstructionData, OperandData, OperandSize};
 use mrc_compiler::operations::Operation;
 
 // Switch a port to a mask after a delay.
-#[derive(Drop)]
+#[derive(Clone, Copy)]
 pub struct Cue {
     pub delay: u16,
     pub port: u8,
     pub mask: u8,
 }
 
-#[derive(Drop)]
+#[derive(Clone, Copy)]
 pub enum CueError {
     // 19: no multiple of four bytes, or more than 200 cues.
     WrongLength,
@@ -30,7 +32,7 @@ pub enum CueError {
     ImageTooShort,
 }
 
-#[derive(Drop)]
+#[derive(Clone, Copy)]
 pub enum Compiled {
     Length(usize),
     Refused(CueError),

@@ -1,4 +1,6 @@
 // Runs the image of a field module on the desk (REFERENCE 15).
+#![tactic(auto)]
+
 ghost use Rattle.std.specs.Prelude.{◌≡◌, true, [], ◌++◌, ◌+◌, ◌≤◌, min, length, take, drop};
 ghost use Rattle.desk_step.specs.Step.{start};
 ghost use Rattle.desk_run.specs.Running.{number_of, ran, is_halted, ending, answered, log_after};
@@ -6,7 +8,7 @@ ghost use Rattle.desk_run.specs.Turns.{turned, added, is_last};
 
 use desk_step::Effect;
 
-#[derive(Drop)]
+#[derive(Clone, Copy)]
 pub enum RunError {
     // 21.
     NotCarriedOut,
@@ -18,7 +20,7 @@ pub enum RunError {
     LogTooShort,
 }
 
-#[derive(Drop)]
+#[derive(Clone, Copy)]
 pub enum Ran {
     // The instructions carried out, HLT among them, and the length of the log's pairs.
     Halted(u32, usize),
@@ -26,7 +28,7 @@ pub enum Ran {
 }
 
 // What a step is to the run: the length of the log behind it, or the end.
-#[derive(Drop)]
+#[derive(Clone, Copy)]
 pub enum Turn {
     On(usize),
     Ended(Ran),

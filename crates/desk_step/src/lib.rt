@@ -1,4 +1,6 @@
 // A step of the machine that the simulator runs (REFERENCE 15).
+#![tactic(auto)]
+
 ghost use Rattle.std.specs.Prelude.{◌≡◌, ◌+◌, ◌%◌};
 ghost use Rattle.desk_step.specs.Step.{start, with_word, with_byte, word_in, register_in, immediate_in, near_in, move_of, out_of, moves_of, outputs_of, loops_of, jumps_of, action_of, shown, looped, refused_at, performed, step_of, fetched_at, none_known, known_at, IsKnown};
 
@@ -17,14 +19,14 @@ const LOOP: u8 = 77;
 const HLT: u8 = 93;
 
 // The word registers by their numbers in ModRM (AX CX DX BX SP BP SI DI), and the offset of the next instruction.
-#[derive(Drop)]
+#[derive(Clone, Copy)]
 pub struct Machine {
     pub registers: [u16; 8],
     pub ip: u16,
 }
 
 // What an instruction has the machine do.
-#[derive(Drop)]
+#[derive(Clone, Copy)]
 pub enum Action {
     // MOV of an immediate to a word register.
     MoveWord(u16, u16),
@@ -49,7 +51,7 @@ pub enum Action {
 }
 
 // What a step shows to the run.
-#[derive(Drop)]
+#[derive(Clone, Copy)]
 pub enum Effect {
     Goes,
 
@@ -62,14 +64,14 @@ pub enum Effect {
     Refused,
 }
 
-#[derive(Drop)]
+#[derive(Clone, Copy)]
 pub struct Stepped {
     pub effect: Effect,
     pub machine: Machine,
 }
 
 // A number that an operand holds.
-#[derive(Drop)]
+#[derive(Clone, Copy)]
 pub enum Held {
     Is(u16),
     None,
@@ -303,21 +305,21 @@ fn perform(action: Action, next: u16, m: Machine) -> Stepped
 }
 
 // What stands at an offset: what its instruction has the machine do, and the instruction's length.
-#[derive(Drop)]
+#[derive(Clone, Copy)]
 pub struct Fetched {
     pub action: Action,
     pub length: u16,
 }
 
 // What was fetched last, and where; 65536 where nothing was.
-#[derive(Drop)]
+#[derive(Clone, Copy)]
 pub struct Known {
     pub at: u32,
     pub fetched: Fetched,
 }
 
 // A step, and what is known behind it.
-#[derive(Drop)]
+#[derive(Clone, Copy)]
 pub struct Done {
     pub stepped: Stepped,
     pub known: Known,

@@ -1,4 +1,6 @@
 // The text that `fsqrun` prints of a run: a line for each pair of the log and the count, or the refusal (REFERENCE 15).
+#![tactic(auto)]
+
 ghost use Rattle.std.specs.Prelude.{◌≡◌, ◌++◌, ◌*◌, ◌≤◌, length, take, drop};
 ghost use Rattle.text_line.specs.Steps.{empty_line, appended};
 ghost use Rattle.desk_run.specs.Running.{number_of};
@@ -10,7 +12,7 @@ use text_line::{
     Line, empty_line, push, push_decimal, push_hex_byte, push_long, push_text, write_line,
 };
 
-#[derive(Drop)]
+#[derive(Clone, Copy)]
 pub enum Written {
     Length(usize),
     TooShort,
@@ -92,7 +94,7 @@ pub fn write_run(image: &[u8], budget: u32, log: &mut [u8], out: &mut [u8]) -> W
     }
 }
 
-#[derive(Drop)]
+#[derive(Clone, Copy)]
 pub enum Budget {
     Steps(u32),
     NoNumber,

@@ -1,4 +1,6 @@
 // Arithmetic and logic of 000: ADD to CMP, NOT to IDIV, TEST, INC and DEC, shifts. Each function decides which form of the table a record takes.
+#![tactic(auto)]
+
 ghost use Rattle.std.specs.Prelude.{◌≡◌, zero, eqb};
 ghost use Rattle.encode_groups.specs.declared.Group.TheVariants as G;
 ghost use Rattle.encode_lines.specs.declared.Line.TheVariants as L;

@@ -1,4 +1,6 @@
 // 003: emits a code list. What a code emits is decided in `encode_fields`; the emitter is lent to whoever writes the fields.
+#![tactic(auto)]
+
 ghost use Rattle.std.specs.Prelude.{◌≡◌};
 ghost use Rattle.encode_run.specs.Run.{empty_run, appended};
 ghost use Rattle.encode_fields.specs.Fields.{field_bytes};
@@ -9,7 +11,7 @@ use encode_run::ByteRun;
 use mrc_compiler::encoder::InstructionData;
 use mrc_compiler::encoder::generate::{Code, Codes};
 
-#[derive(Drop)]
+#[derive(Clone, Copy)]
 pub struct Emitted {
     pub refusal: Refusal,
     pub run: ByteRun,

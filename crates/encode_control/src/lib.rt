@@ -1,4 +1,6 @@
 // Control transfer of 000, and the groups without operands. Each function decides which form of the table a record takes.
+#![tactic(auto)]
+
 ghost use Rattle.std.specs.Prelude.{◌≡◌, zero};
 ghost use Rattle.encode_groups.specs.declared.Group.TheVariants as G;
 ghost use Rattle.encode_plans.specs.Decisions.{ret_form, through_form, far_form, call_form, jmp_form, short_form, int_form, decision_in};

@@ -1,4 +1,6 @@
 // The dispatch of 000's encode, in three steps: an operation's group with its base, the form that the group's function decides, the form's code list.
+#![tactic(auto)]
+
 ghost use Rattle.std.specs.Prelude.{◌≡◌};
 ghost use Rattle.encode_spec.specs.Records.{dst, src};
 ghost use Rattle.encode_plans.specs.Decisions.{decision_in};

@@ -1,4 +1,6 @@
 // 003: what each code of a code list emits, field by field, or the refusal: decided by value.
+#![tactic(auto)]
+
 ghost use Rattle.std.specs.Prelude.{◌≡◌, [], ◌∷◌, ◌++◌, ◌+◌, ◌*◌, ◌/◌, ◌%◌};
 ghost use Rattle.encode_spec.specs.Answer.{bytes, refused};
 ghost use Rattle.encode_spec.specs.Layout.{prefix_bytes, displacement_bytes};
@@ -12,14 +14,14 @@ use mrc_compiler::encoder::generate::Code;
 use mrc_compiler::encoder::{EncodeError, InstructionData, OperandData, OperandSize};
 
 // The Rust's Result<(), EncodeError>. An enum cannot hold the run's array, so the two stand side by side.
-#[derive(Drop)]
+#[derive(Clone, Copy)]
 pub enum Refusal {
     None,
     Because(EncodeError),
 }
 
 // A field of an instruction: absent, a byte, or a word, low byte first.
-#[derive(Drop)]
+#[derive(Clone, Copy)]
 pub enum Field {
     Absent,
     Byte(u8),
@@ -27,7 +29,7 @@ pub enum Field {
 }
 
 // What a code emits, one field after the other, or why it is refused.
-#[derive(Drop)]
+#[derive(Clone, Copy)]
 pub struct Fields {
     pub prefix: Field,
     pub opcode: Field,

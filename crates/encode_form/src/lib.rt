@@ -1,4 +1,6 @@
 // The form by which a record is written, or the question that refused it (REFERENCE 9): what `fsqform` prints.
+#![tactic(auto)]
+
 ghost use Rattle.std.specs.Prelude.{◌≡◌, ◌≤◌};
 ghost use Rattle.encode_form.specs.Ground.{ground};
 ghost use Rattle.encode_form.specs.ByBytes.{has_digit, digit_at, data_limits, limits_by, operands_in, opcode_place, written_in, question_by};
@@ -9,21 +11,21 @@ use encode_run::ByteRun;
 use mrc_compiler::encoder::{EncodeError, InstructionData, OperandSize};
 
 // The n of /n, where the opcode has one.
-#[derive(Drop)]
+#[derive(Clone, Copy)]
 pub enum Digit {
     None,
     Is(u8),
 }
 
 // Question 6's limits on the immediate, where there is one.
-#[derive(Drop)]
+#[derive(Clone, Copy)]
 pub enum Limits {
     None,
     Between(i32, i32),
 }
 
 // A form as a record has it written: the opcode byte with the register in it, its digit, how many of the record's operands it uses, from the first on, and the limits.
-#[derive(Drop)]
+#[derive(Clone, Copy)]
 pub struct Written {
     pub opcode: u8,
     pub digit: Digit,
@@ -32,7 +34,7 @@ pub struct Written {
 }
 
 // Why a record is answered as it is: the form of its bytes, or the number of the question that refused it.
-#[derive(Drop)]
+#[derive(Clone, Copy)]
 pub enum Ground {
     Form(Written),
     Question(u8),

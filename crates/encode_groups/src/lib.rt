@@ -1,10 +1,12 @@
 // The groups of operations: of them document 01's code list and questions speak, and each is a group function of 000.
+#![tactic(auto)]
+
 ghost use Rattle.std.specs.Prelude.{◌≡◌};
 ghost use Rattle.encode_groups.specs.Grouping.{grouped_of};
 
 use mrc_compiler::operations::Operation;
 
-#[derive(Drop)]
+#[derive(Clone, Copy)]
 pub enum Group {
     // ADD OR ADC SBB AND SUB XOR CMP.
     Arithmetic,
@@ -45,7 +47,7 @@ pub enum Group {
 }
 
 // An operation's group, and what tells it from the others of the group: an opcode, or a digit.
-#[derive(Drop)]
+#[derive(Clone, Copy)]
 pub struct Grouped {
     pub group: Group,
     pub base: u8,

@@ -1,4 +1,6 @@
 // The lines of the table of forms that a record can take, and the code list of each.
+#![tactic(auto)]
+
 ghost use Rattle.std.specs.Prelude.{◌≡◌, ◌+◌, ◌*◌, ◌%◌, ◌≤◌};
 ghost use Rattle.mrc_compiler.specs.declared.encoder.generate.Plan.TheVariants as P;
 ghost use Rattle.encode_lines.specs.Lines.{bit, immediate, one_code, two_codes, line_plan, plain, planned};
@@ -7,7 +9,7 @@ use mrc_compiler::ast::DataSize;
 use mrc_compiler::encoder::generate::{At, Code, Codes, FIRST_OPER_DST, FIRST_OPER_SRC, Plan, Why};
 
 // A line of the table of forms (x86, specs/Forms): a form of a group, whatever its operation and its size; or why a record has none.
-#[derive(Drop)]
+#[derive(Clone, Copy)]
 pub enum Line {
     // ADD OR ADC SBB AND SUB XOR CMP: ModRM; 83; accumulator; 80 and 81.
     ArithRmReg,
@@ -102,7 +104,7 @@ pub enum Line {
 
 // What a group decides: the line of the form that a record takes, or why there is none, and its size (Word where the line has none). In 000
 // each group calls emit_codes itself.
-#[derive(Drop)]
+#[derive(Clone, Copy)]
 pub struct Decision {
     pub line: Line,
     pub size: DataSize,

@@ -1,4 +1,6 @@
 // Question 1: is an operand well formed, and the repeat?
+#![tactic(auto)]
+
 ghost use Rattle.std.specs.Prelude.{◌≡◌, eqb, ◌<◌, true, false};
 ghost use Rattle.x86.specs.Reading.{displacement_length};
 ghost use Rattle.mrc_compiler.specs.Choose.{by_size};

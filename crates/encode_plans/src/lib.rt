@@ -1,4 +1,6 @@
 // What the groups of 000 share: the size of two operands, and small tests.
+#![tactic(auto)]
+
 ghost use Rattle.std.specs.Prelude.{◌≡◌, eqb, pos};
 ghost use Rattle.mrc_compiler.specs.Choose.{both};
 ghost use Rattle.mrc_compiler.specs.Builders.{is_direct_address};
@@ -11,7 +13,7 @@ use mrc_compiler::encoder;
 use mrc_compiler::encoder::OperandSize;
 
 // The Rust's Result<OperandSize, EncodeError> of common_operand_size.
-#[derive(Drop)]
+#[derive(Clone, Copy)]
 pub enum Common {
     Is(DataSize),
     NotSpecified,

@@ -1,9 +1,11 @@
 // A run of bytes and its emitter (REFERENCE 4): the Rust's ByteEmitter, lent to whoever writes.
+#![tactic(auto)]
+
 ghost use Rattle.std.specs.Prelude.{◌≡◌};
 ghost use Rattle.encode_run.specs.Run.{empty_run, pushed};
 
 // Seven bytes and how many of them are there.
-#[derive(Drop)]
+#[derive(Clone, Copy)]
 pub struct ByteRun {
     pub bytes: [u8; 7],
     pub len: usize,

@@ -1,1 +1,2 @@
 // What a record means and what encode answers to it. Definitions and theorems only: no code.
+#![tactic(auto)]

@@ -1,4 +1,6 @@
 // Data transfer of 000: MOV, XCHG, PUSH, POP, LEA, LES, LDS, XLATB, IN, OUT. Each function decides which form of the table a record takes.
+#![tactic(auto)]
+
 ghost use Rattle.std.specs.Prelude.{◌≡◌, zero};
 ghost use Rattle.encode_groups.specs.declared.Group.TheVariants as G;
 ghost use Rattle.encode_plans.specs.Decisions.{is_ax, sreg_form, into_sreg_form, mov_form, xchg_form, push_form, pop_form, load_form, xlat_form, port_form, port_decision, decision_in};

@@ -1,4 +1,6 @@
 // The entry point of the encoder: 000's encode over a lent slice.
+#![tactic(auto)]
+
 ghost use Rattle.std.specs.Prelude.{◌≡◌, ◌++◌, ◌≤◌, leb, length, take, drop};
 ghost use Rattle.mrc_compiler.specs.Choose.{pick};
 ghost use Rattle.encode_spec.specs.Questions.{span_at, error_of};

@@ -1,4 +1,6 @@
 // A faster way to an answer's bytes: off the record's own bytes into one number. Where it has none the encoder is asked, which gives every refusal.
+#![tactic(auto)]
+
 ghost use Rattle.std.specs.Prelude.{◌≡◌, true, false, [], ◌∷◌, ℕ, ◌+◌, ◌≤◌, ◌<◌, eqb, pos};
 ghost use Rattle.mrc_compiler.specs.Builders.{is_direct_address};
 ghost use Rattle.mrc_compiler.specs.Choose.{pick, both, by_jump};

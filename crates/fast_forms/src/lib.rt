@@ -1,4 +1,6 @@
 // The code lists of document 01 on the bytes of a record, each into one number; 0 where a value is out of its range, or where a form has no size.
+#![tactic(auto)]
+
 ghost use Rattle.std.specs.Prelude.{◌≡◌, ℕ, ◌+◌, ◌*◌, ◌<◌, ◌≤◌, [], ◌∷◌, ◌++◌};
 ghost use Rattle.mrc_compiler.specs.declared.encoder.generate.Code.TheVariants as C;
 ghost use Rattle.encode_lines.specs.Lines.{bit, immediate, one_code, two_codes};

@@ -1,4 +1,6 @@
 // Question 1 of an operand, and whether its codes are known, off the bytes of its record. A no may be wrong: the encoder asks again.
+#![tactic(auto)]
+
 ghost use Rattle.std.specs.Prelude.{◌≡◌, true, ◌+◌, ◌≤◌, ◌<◌, length, get_or};
 ghost use Rattle.mrc_compiler.specs.declared.encoder.OperandSize.TheVariants as S;
 ghost use Rattle.base_values.specs.Distances.{as_i_32};

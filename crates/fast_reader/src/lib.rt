@@ -1,4 +1,6 @@
 // A faster way to the words of a reading (specs/Words): off the bytes, by one number for each first byte. Where it has none the reader is asked, which gives every refusal.
+#![tactic(auto)]
+
 ghost use Rattle.std.specs.Prelude.{◌≡◌, true, ℕ, ◌<◌, eqb, length, get_or};
 ghost use Rattle.mrc_compiler.specs.Choose.{pick};
 ghost use Rattle.x86.specs.Reading.{prefix as prefixed};
@@ -6,7 +8,7 @@ ghost use Rattle.fast_reader.specs.Plans.{plans, group_in, string_in, digit_oper
 ghost use Rattle.fast_reader.specs.Words.{Placed, repeated_words, Reads};
 
 // An instruction as it crosses: a and b are the first operand's, c and d the second's. A head of 0 is none's, since its low byte is the length.
-#[derive(Drop)]
+#[derive(Clone, Copy)]
 pub struct Words {
     pub head: u32,
     pub extension: u32,

@@ -1,4 +1,6 @@
 // Numbers for what the dispatch goes by. A `match` from a number to numbers is a table that is only read.
+#![tactic(auto)]
+
 ghost use Rattle.std.specs.Prelude.{◌≡◌, ◌<◌, get_or};
 ghost use Rattle.fast_rows.specs.Rows.{rows, no_row, commons};
 

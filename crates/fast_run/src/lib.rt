@@ -1,4 +1,6 @@
 // A run as one number (specs/Packed): bytes are put before those that are there, and the count above them.
+#![tactic(auto)]
+
 ghost use Rattle.std.specs.Prelude.{◌≡◌, true, [], ◌∷◌, ◌++◌, ◌<◌, ◌≤◌, ◌/◌, length, drop};
 ghost use Rattle.encode_spec.specs.Layout.{prefix_bytes};
 ghost use Rattle.fast_run.specs.Packed.{over, digits, displaced, length_unit, unpacked, Valued};

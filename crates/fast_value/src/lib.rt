@@ -1,4 +1,6 @@
 // The ranges of a record's numbers without a sign.
+#![tactic(auto)]
+
 ghost use Rattle.std.specs.Prelude.{◌≡◌, ◌-◌, ◌<◌, ◌≤◌, pos};
 ghost use Rattle.mrc_compiler.specs.Values.{within};
 ghost use Rattle.base_values.specs.Distances.{as_i_32};

@@ -37,9 +37,7 @@ fn response_converted(answer: Converted) -> Response
 //   answer   0, or the refusal's number: 12 to 14 of the file; 15 of the first record with an unknown code; 24 of the first with a shift count outside 1 to 31; 1 to 8
 //            of the first that the encoder refuses where it stood; 25 of the first branch to no record's start and not to the end; then those of the written file, 14
 //            for more than 1,000 records, and 1 to 8 with the record of the written file; last 9, where out is too short
-// In C: uint8_t fsq_convert(const uint8_t *file, size_t file_len, uint8_t *out, size_t out_len, uint8_t *report, size_t report_len);
-#[unsafe(no_mangle)]
-pub extern "C" fn fsq_convert(file: &[u8], out: &mut [u8], report: &mut [u8]) -> u8
+pub fn fsq_convert(file: &[u8], out: &mut [u8], report: &mut [u8]) -> u8
     ensures value { result ≡ (response_converted (converted file.now (length out.old))).number }
     ensures out_after { out.new ≡ slice_after file.now out.old }
     ensures report_after { report.new ≡ report_after (response_converted (converted file.now (length out.old))) report.old }

@@ -27,9 +27,7 @@ fn response_form(rec: &[u8], offset: u16, out: &mut [u8]) -> Response
 //   out      gets, where it has 64 bytes, the line that fsqform prints, `form ..` or `question N`, with its line feed; its later bytes stay
 //   report   as fsq_encode's; its length is that of the line
 //   answer   0, also where the record is refused; 9 where out has fewer than 64 bytes; 14 and 15 as fsq_encode's
-// In C: uint8_t fsq_form(const uint8_t *rec, size_t rec_len, uint16_t offset, uint8_t *out, size_t out_len, uint8_t *report, size_t report_len);
-#[unsafe(no_mangle)]
-pub extern "C" fn fsq_form(rec: &[u8], offset: u16, out: &mut [u8], report: &mut [u8]) -> u8
+pub fn fsq_form(rec: &[u8], offset: u16, out: &mut [u8], report: &mut [u8]) -> u8
     ensures value { result ≡ (response_form (record_of rec.now) offset out.old).number }
     ensures out_after { out.new ≡ form_after (record_of rec.now) offset out.old }
     ensures report_after { report.new ≡ report_after (response_form (record_of rec.now) offset out.old) report.old }

@@ -1,5 +1,7 @@
-// The functions that Rust or C links (`rt staticlib foreign`). A slice crosses as its address and its length, and no two slices of a call may overlap.
+// The functions of the library as plain ones; crate `foreign_c` has them for C and Rust under the same names, with the same clauses.
 // An answer crosses as its number, with a report beside it (crate `foreign_report`).
+#![tactic(auto)]
+
 pub mod check;
 pub mod convert;
 pub mod cue;

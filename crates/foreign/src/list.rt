@@ -39,9 +39,7 @@ fn response_listing(rec: &[u8], offset: u16, out: &mut [u8]) -> Response
 //            lengths by their first differing byte. Its later bytes stay, and a refusal leaves it as it was
 //   report   as fsq_encode's; its length is the number of entries
 //   answer   0, or the refusal's number; 9 where out has fewer than 96 bytes; 14 and 15 as fsq_encode's
-// In C: uint8_t fsq_list(const uint8_t *rec, size_t rec_len, uint16_t offset, uint8_t *out, size_t out_len, uint8_t *report, size_t report_len);
-#[unsafe(no_mangle)]
-pub extern "C" fn fsq_list(rec: &[u8], offset: u16, out: &mut [u8], report: &mut [u8]) -> u8
+pub fn fsq_list(rec: &[u8], offset: u16, out: &mut [u8], report: &mut [u8]) -> u8
     ensures value { result ≡ (response_listing (record_of rec.now) offset out.old).number }
     ensures out_after { out.new ≡ list_after (record_of rec.now) offset out.old }
     ensures report_after { report.new ≡ report_after (response_listing (record_of rec.now) offset out.old) report.old }

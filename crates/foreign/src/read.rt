@@ -116,9 +116,7 @@ fn write_words(words: Words, out: &mut [u8])
 //            1), number (the register's, or the base: the r/m number of the address, 8 for none), the segment of memory (0 ES, 1 CS, 2 SS, 3
 //            DS), zero, displacement, immediate or target (u16), a far target's segment (u16). Its later bytes stay
 //   answer   0, or 10 where no instruction begins so, or 11 where one is not complete yet; out then stays as it was
-// In C: uint8_t fsq_read(const uint8_t *bytes, size_t bytes_len, uint16_t offset, uint8_t *out, size_t out_len);
-#[unsafe(no_mangle)]
-pub extern "C" fn fsq_read(bytes: &[u8], offset: u16, out: &mut [u8]) -> u8
+pub fn fsq_read(bytes: &[u8], offset: u16, out: &mut [u8]) -> u8
     ensures value { result ≡ read_number (decoded offset bytes.now) }
     ensures out_after { out.new ≡ read_after (decoded offset bytes.now) out.old }
 {

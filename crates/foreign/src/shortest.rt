@@ -27,9 +27,7 @@ fn response_shortest(rec: &[u8], offset: u16, out: &mut [u8]) -> Response
 //   out      gets the bytes at its front; its later bytes stay, and a refusal leaves it as it was
 //   report   as fsq_encode's
 //   answer   as fsq_encode's; 9 where out does not hold the shortest string
-// In C: uint8_t fsq_shortest(const uint8_t *rec, size_t rec_len, uint16_t offset, uint8_t *out, size_t out_len, uint8_t *report, size_t report_len);
-#[unsafe(no_mangle)]
-pub extern "C" fn fsq_shortest(rec: &[u8], offset: u16, out: &mut [u8], report: &mut [u8]) -> u8
+pub fn fsq_shortest(rec: &[u8], offset: u16, out: &mut [u8], report: &mut [u8]) -> u8
     ensures value { result ≡ (response_shortest (record_of rec.now) offset out.old).number }
     ensures out_after { out.new ≡ shortest_after (record_of rec.now) offset out.old }
     ensures report_after { report.new ≡ report_after (response_shortest (record_of rec.now) offset out.old) report.old }

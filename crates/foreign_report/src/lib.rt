@@ -1,4 +1,6 @@
 // The report of 28 bytes that stands beside an answer's number, and the fields that cross.
+#![tactic(auto)]
+
 ghost use Rattle.std.specs.Prelude.{◌≡◌, ◌+◌, ◌≤◌, length};
 ghost use Rattle.std.proofs.lemmas.List.Edits.{sets};
 ghost use Rattle.foreign_report.specs.Crossing.{u32_bytes, three_bytes, response_length, response_value, response_alone, response_span, response_refusal, response_encoded, of_record, report_after};
@@ -10,7 +12,7 @@ use mrc_compiler::encoder::{EncodeError, Encoded};
 pub const NO_RECORD: u32 = 4294967295;
 
 // What an answer tells: its number, 0 where nothing is refused, and the report's fields.
-#[derive(Drop)]
+#[derive(Clone, Copy)]
 pub struct Response {
     pub number: u8,
     pub length: u32,

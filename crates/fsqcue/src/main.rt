@@ -1,40 +1,39 @@
 // Compiles the cues on standard input to the image of a field module on standard output (REFERENCE 14).
+#![tactic(auto)]
+
 use cue_compile::{Compiled, CueError};
-use libc::{STDERR_FILENO, STDOUT_FILENO};
+use input::Failure;
+use std::io;
 
 // Says a refusal on standard error.
-fn print_refused(error: CueError) {
-    io::write_all(STDERR_FILENO, b"refused ");
-    io::print_decimal(STDERR_FILENO, error.number() as u64);
-    io::write_all(STDERR_FILENO, b"\n");
+fn print_refused(rt: &impl Eprint, error: CueError) {
+    let _ = eprintln!(rt; "refused {}", error.number());
 }
 
-// Prints the image of some cues, by way of image, or says the refusal. The answer is false where not all of an image was written.
-fn print_image(cues: &[u8], image: &mut [u8]) -> bool {
-    let compiled = cue_compile::compile(cues, image);
-    match compiled {
-        Compiled::Length(n) => io::write_all(STDOUT_FILENO, &image[..n]),
-        Compiled::Refused(e) => {
-            print_refused(e);
-            true
-        },
+// Prints the image of some cues, by way of image, or says the refusal.
+fn print_image(rt: &(impl Print + Eprint), cues: &[u8], image: &mut [u8]) -> io::Result<()> {
+    match cue_compile::compile(cues, image) {
+        Compiled::Length(n) => rt.write_all(&image[..n]),
+        Compiled::Refused(error) => {
+            print_refused(rt, error);
+            Ok(())
+        }
     }
 }
 
 // The buffer is longer than 200 cues, so that of an input that does not fit the length is still wrong; the image is the longest.
-fn main() {
-    if !input::called_alone(os::arg_count(), b"usage: fsqcue < CUES > IMAGE\n") {
-        return;
-    }
-    let mut space = io::large_buffer();
-    let got = input::read_input(&mut space);
-    if got < 0 {
-        os::fail(b"standard input");
-        return;
-    }
-    let n = io::count(got, &space);
+fn compile_input(rt: &(impl Input + Print + Eprint)) -> Result<(), Failure> {
+    let mut space = [0; 65536];
+    let n = input::read_input(&mut rt.reader(), &mut space).map_err(Failure::Input)?;
     let mut image = [0; 1801];
-    if !print_image(&space[..n], &mut image) {
-        os::fail(b"standard output");
+    print_image(rt, &space[..n], &mut image).map_err(Failure::Output)
+}
+
+fn main(rt: HostRuntime) {
+    if !input::called_alone(&rt.stderr(), input::word_count(&rt), b"usage: fsqcue < CUES > IMAGE\n") {
+        return;
+    }
+    if let Err(failure) = compile_input(&rt) {
+        let _ = eprintln!(rt; "{failure}");
     }
 }

@@ -1,30 +1,31 @@
 // Lists a show file: reads it from standard input and prints its text (REFERENCE 9).
-use libc::STDOUT_FILENO;
-use show_text::Listed;
+#![tactic(auto)]
 
-// Prints the text of a show file, by way of out, and answers whether all of it was written.
-fn print_text(file: &[u8], out: &mut [u8]) -> bool {
-    let listed = show_text::write_text(file, out);
-    match listed {
-        Listed::Length(n) => io::write_all(STDOUT_FILENO, &out[..n]),
-        Listed::TooShort => false,
+use input::Failure;
+use show_text::Listed;
+use std::io;
+
+// Prints the text of a show file, by way of out.
+fn print_text(rt: &impl Print, file: &[u8], out: &mut [u8]) -> io::Result<()> {
+    match show_text::write_text(file, out) {
+        Listed::Length(n) => rt.write_all(&out[..n]),
+        Listed::TooShort => Err(io::Error::other("the text is too long")),
     }
 }
 
 // The buffer is longer than any show that is printed, so that of an input that does not fit the count or the length is still wrong.
-fn main() {
-    if !input::called_alone(os::arg_count(), b"usage: fsqlist < SHOW.fsq\n") {
+fn list_input(rt: &(impl Input + Print)) -> Result<(), Failure> {
+    let mut space = [0; 65536];
+    let n = input::read_input(&mut rt.reader(), &mut space).map_err(Failure::Input)?;
+    let mut out = [0; 65536];
+    print_text(rt, &space[..n], &mut out).map_err(Failure::Output)
+}
+
+fn main(rt: HostRuntime) {
+    if !input::called_alone(&rt.stderr(), input::word_count(&rt), b"usage: fsqlist < SHOW.fsq\n") {
         return;
     }
-    let mut space = io::large_buffer();
-    let got = input::read_input(&mut space);
-    if got < 0 {
-        os::fail(b"standard input");
-        return;
-    }
-    let n = io::count(got, &space);
-    let mut out = io::large_buffer();
-    if !print_text(&space[..n], &mut out) {
-        os::fail(b"standard output");
+    if let Err(failure) = list_input(&rt) {
+        let _ = eprintln!(rt; "{failure}");
     }
 }

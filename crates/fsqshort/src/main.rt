@@ -1,22 +1,24 @@
 // Prints every string of one or two bytes that reads, whole, as one instruction at offset 0, and their number (REFERENCE 13).
-use libc::STDOUT_FILENO;
-use short_list::{SHORT_LENGTH, Written};
+#![tactic(auto)]
 
-// Prints the text, by way of out, and answers whether all of it was written.
-fn print_short(out: &mut [u8]) -> bool {
-    let written = short_list::write_short(out);
-    match written {
-        Written::Length(n) => io::write_all(STDOUT_FILENO, &out[..n]),
-        Written::TooShort => false,
+use input::Failure;
+use short_list::{SHORT_LENGTH, Written};
+use std::io;
+
+// Prints the text, by way of out.
+fn print_short(rt: &impl Print, out: &mut [u8]) -> io::Result<()> {
+    match short_list::write_short(out) {
+        Written::Length(n) => rt.write_all(&out[..n]),
+        Written::TooShort => Err(io::Error::other("the text is too long")),
     }
 }
 
-fn main() {
-    if !input::called_alone(os::arg_count(), b"usage: fsqshort\n") {
+fn main(rt: HostRuntime) {
+    if !input::called_alone(&rt.stderr(), input::word_count(&rt), b"usage: fsqshort\n") {
         return;
     }
     let mut out = [0; SHORT_LENGTH];
-    if !print_short(&mut out) {
-        os::fail(b"standard output");
+    if let Err(failure) = print_short(&rt, &mut out).map_err(Failure::Output) {
+        let _ = eprintln!(rt; "{failure}");
     }
 }

@@ -1,37 +1,65 @@
 // How a program of ours is called: no argument, and its input on standard input.
-ghost use Rattle.std.specs.Prelude.{◌≡◌, leb, length, ◌≤◌};
-ghost use Rattle.libc.specs.Io.{Moved};
+#![tactic(auto)]
 
-use libc::{STDERR_FILENO, STDIN_FILENO};
+ghost use Rattle.std.specs.Prelude.{◌≡◌, ◌<◌, leb, length, take, IfOk};
+ghost use Rattle.std.specs.Io.{ReadsAtMost};
+ghost use Rattle.std.specs.Io.KnownBytes.{Consumes, IsAtEnd};
 
-// Is a program that was started with so many words, its own name among them, called without an argument? Where it is not, says on standard error how it is called.
-pub fn called_alone(words: usize, usage: &[u8]) -> bool
+use std::env::{Env, FillError};
+use std::io::Read;
+use std::{fmt, io};
+
+// What a program could not do, and why.
+#[derive(Debug, Drop)]
+pub enum Failure {
+    Input(io::Error),
+    Output(io::Error),
+}
+
+impl fmt::Display for Failure {
+    fn fmt<W: fmt::Write>(&self, f: &mut fmt::Formatter<W>) -> fmt::Result {
+        match self {
+            Failure::Input(error) => write!(f, "standard input: {error}"),
+            Failure::Output(error) => write!(f, "standard output: {error}"),
+        }
+    }
+}
+
+// With how many words the program was started, its own name among them.
+pub fn word_count(rt: &impl Env) -> usize {
+    for i in 0..usize::MAX {
+        if let Err(FillError::NotPresent) = rt.arg(i, &mut []) {
+            return i;
+        }
+    }
+    usize::MAX
+}
+
+// Is a program that was started with so many words, its own name among them, called without an argument? Where it is not, says how it is called, on errors, which is standard error.
+pub fn called_alone(errors: &impl Print, words: usize, usage: &[u8]) -> bool
     ensures { result ≡ leb words 1 }
 {
     if words <= 1 {
         return true;
     }
-    io::write_all(STDERR_FILENO, usage);
+    let _ = errors.write_all(usage);
     false
 }
 
-// Reads until buf is full or the input ends, and answers as libc::read does: how many bytes, or -1 where a read failed. Which of them, and the bytes, the system leaves open: the
-// promise only limits the answer.
-pub fn read_input(buf: &mut [u8]) -> isize
-    requires { length buf.old ≤ 65536 }
-    ensures { Moved (length buf.old) result }
+// Reads until buf is full or the input ends, and answers how many bytes. Where it is known what the reader gives, they are that, from its front, and all of it where buf has room left.
+pub fn read_input<R: Read>(reader: &mut R, buf: &mut [u8]) -> io::Result<usize>
+    ensures bound { ReadsAtMost result buf.new }
+    ensures len_unchanged { length buf.new ≡ length buf.old }
+    ensures bytes { IfOk result (λ n. Consumes (R.remaining reader.old) (R.remaining reader.new) (take n buf.new)) }
+    ensures whole { IfOk result (λ n. n < length buf.new → IsAtEnd (R.remaining reader.new)) }
 {
     let mut at = 0;
     while at < buf.len() {
-        let got = libc::read(STDIN_FILENO, &mut buf[at..]);
-        if got < 0 {
-            return -1;
-        }
-        let n = io::count(got, &buf[at..]);
+        let n = reader.read(&mut buf[at..])?;
         if n == 0 {
-            return at as isize;
+            return Ok(at);
         }
         at += n;
     }
-    at as isize
+    Ok(at)
 }

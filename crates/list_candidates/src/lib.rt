@@ -1,4 +1,6 @@
 // The twelve candidates of an instruction's listing, each as a run of bytes.
+#![tactic(auto)]
+
 ghost use Rattle.std.specs.Prelude.{◌≡◌, ◌/◌, ◌%◌, ◌≤◌};
 ghost use Rattle.encode_spec.specs.Layout.{word_bytes, prefix_bytes};
 ghost use Rattle.encode_run.specs.Run.{empty_run, appended};

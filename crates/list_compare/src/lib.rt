@@ -1,4 +1,6 @@
 // Instructions compared by value, through their numbers.
+#![tactic(auto)]
+
 ghost use Rattle.std.specs.Prelude.{◌≡◌, eqb};
 ghost use Rattle.mrc_compiler.specs.Choose.{both};
 ghost use Rattle.list_spec.specs.Operands.{same_type, same_memory, same_value, same_operand, same_instruction};

@@ -1,4 +1,6 @@
 // Is a string the first of its instruction's listing? For most strings their first bytes tell.
+#![tactic(auto)]
+
 ghost use Rattle.std.specs.Prelude.{◌≡◌};
 ghost use Rattle.list_first.specs.First.{has_modrm, least_by_modrm, least_alone, least_displacement, first_alone, is_prefix, in_stack, own_prefix, is_first};
 

@@ -1,4 +1,6 @@
 // What of an instruction its strings are made of.
+#![tactic(auto)]
+
 ghost use Rattle.std.specs.Prelude.{◌≡◌};
 ghost use Rattle.list_spec.specs.Operands.{prefix_in, prefix_of, displacement_of, value_of, far_segment_of};
 ghost use Rattle.list_spec.specs.Parts.{is_short, parts_of};

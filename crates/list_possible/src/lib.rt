@@ -1,4 +1,6 @@
 // Which candidates can read as an instruction, by its operands' kinds and its displacement.
+#![tactic(auto)]
+
 ghost use Rattle.std.specs.Prelude.{◌≡◌};
 ghost use Rattle.list_spec.specs.Possible.{is_a, is_accumulator, is_address, is_word, is_word_register, is_ax, mode_for, mode_fits, modeless, with_alternate, by_accumulator, immediate_fits, with_register, arithmetic_fits, by_address, move_alternate, test_alternate, registers_fit, exchange_fits, encoding_fits, start_fits, prefix_fits, possible};
 

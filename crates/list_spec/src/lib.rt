@@ -1,10 +1,12 @@
 // The listing of demand 3 as definitions and theorems, and the values that its code hands on.
+#![tactic(auto)]
+
 use encode_groups::Group;
 use mrc_compiler::encoder::OperandSize;
 use x86::operands::OperandType;
 
 // The byte behind an opcode.
-#[derive(Drop)]
+#[derive(Clone, Copy)]
 pub enum Second {
     None,
 
@@ -16,7 +18,7 @@ pub enum Second {
 }
 
 // What an instruction ends with.
-#[derive(Drop)]
+#[derive(Clone, Copy)]
 pub enum Tail {
     None,
 
@@ -36,7 +38,7 @@ pub enum Tail {
 }
 
 // How a string of an instruction goes on behind its prefix; the values in it are the instruction's.
-#[derive(Drop)]
+#[derive(Clone, Copy)]
 pub struct Start {
     pub opcode: u8,
     pub second: Second,
@@ -44,7 +46,7 @@ pub struct Start {
 }
 
 // What of an instruction its strings are made of.
-#[derive(Drop)]
+#[derive(Clone, Copy)]
 pub struct Parts {
     pub repeat: u8,
 

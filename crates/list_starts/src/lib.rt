@@ -1,4 +1,6 @@
 // The starts of an instruction's strings, group by group of document 01's code list.
+#![tactic(auto)]
+
 ghost use Rattle.std.specs.Prelude.{◌≡◌};
 ghost use Rattle.list_spec.specs.declared.Second.TheVariants.{Fixed};
 ghost use Rattle.list_spec.specs.declared.Tail.TheVariants.{None};

@@ -1,4 +1,6 @@
 // Lists all strings of the same instruction as a record's, as entries of 8 bytes (demand 3).
+#![tactic(auto)]
+
 ghost use Rattle.std.specs.Prelude.{◌≡◌, ◌++◌, ◌*◌, ◌<◌, ◌≤◌, length, take, drop, get_or};
 ghost use Rattle.x86.specs.Reading.{reads};
 ghost use Rattle.encode_spec.specs.Answer.{answer};
@@ -14,7 +16,7 @@ use mrc_compiler::encoder::{EncodeError, InstructionData};
 use x86::{Instruction, Read};
 
 // The number of entries, or the refusal.
-#[derive(Drop)]
+#[derive(Clone, Copy)]
 pub enum Listed {
     Count(usize),
     Refused(EncodeError),

@@ -3,13 +3,13 @@ ghost use Rattle.std.specs.Prelude.{◌≡◌};
 ghost use Rattle.mrc_compiler.specs.Registers.{byte_register, word_register, register, data_size_of, segment, indirect_encoding};
 
 // The two ends of a piece of the source text.
-#[derive(Drop)]
+#[derive(Clone, Copy)]
 pub struct Span {
     pub start: u32,
     pub end: u32,
 }
 
-#[derive(Drop)]
+#[derive(Clone, Copy)]
 pub enum ByteRegister {
     Al,
     Cl,
@@ -39,7 +39,7 @@ impl ByteRegister {
     }
 }
 
-#[derive(Drop)]
+#[derive(Clone, Copy)]
 pub enum WordRegister {
     Ax,
     Cx,
@@ -69,7 +69,7 @@ impl WordRegister {
     }
 }
 
-#[derive(Drop)]
+#[derive(Clone, Copy)]
 pub enum Register {
     Byte(ByteRegister),
     Word(WordRegister),
@@ -97,7 +97,7 @@ impl Register {
     }
 }
 
-#[derive(Drop)]
+#[derive(Clone, Copy)]
 pub enum Segment {
     ES,
     CS,
@@ -119,13 +119,13 @@ impl Segment {
     }
 }
 
-#[derive(Drop)]
+#[derive(Clone, Copy)]
 pub enum DataSize {
     Byte,
     Word,
 }
 
-#[derive(Drop)]
+#[derive(Clone, Copy)]
 pub enum IndirectEncoding {
     BxSi,
     BxDi,
@@ -156,13 +156,13 @@ impl IndirectEncoding {
 }
 
 // The Rust's Option<DataSize> and Option<Segment>.
-#[derive(Drop)]
+#[derive(Clone, Copy)]
 pub enum OptionDataSize {
     None,
     Some(DataSize),
 }
 
-#[derive(Drop)]
+#[derive(Clone, Copy)]
 pub enum OptionSegment {
     None,
     Some(Segment),

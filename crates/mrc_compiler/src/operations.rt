@@ -3,7 +3,7 @@ ghost use Rattle.std.specs.Prelude.{◌≡◌, get_or};
 ghost use Rattle.mrc_compiler.specs.declared.operations.Operation.TheVariants as Op;
 ghost use Rattle.mrc_compiler.specs.Operations.{operations, number_of, operation_numbered};
 
-#[derive(Drop)]
+#[derive(Clone, Copy)]
 pub enum Operation {
     // Data transfer
     MOV, // Move
@@ -121,7 +121,7 @@ pub enum Operation {
 }
 
 // An operation, where there is one.
-#[derive(Drop)]
+#[derive(Clone, Copy)]
 pub enum OptionOperation {
     None,
     Some(Operation),

@@ -1,4 +1,6 @@
 // The shape of a row of the table: what the opcode column has, and the two slots.
+#![tactic(auto)]
+
 ghost use Rattle.std.specs.Prelude.{◌≡◌};
 ghost use Rattle.x86.specs.Rows.{shape_numbered};
 

@@ -1,4 +1,6 @@
 // The operand in each slot of a form, out of the bytes of an instruction.
+#![tactic(auto)]
+
 ghost use Rattle.std.specs.Prelude.{◌≡◌, true, false, ◌+◌, ◌*◌, ◌%◌, ◌≤◌, ◌<◌, eqb, get_or};
 ghost use Rattle.mrc_compiler.specs.Choose.{both, by_size};
 ghost use Rattle.mrc_compiler.specs.Operations.{same_operation};
@@ -15,7 +17,7 @@ use x86::{Instruction, Operand};
 use x86_forms::{Place, Restriction, Slot};
 
 // A register's number, where an operand is a register.
-#[derive(Drop)]
+#[derive(Clone, Copy)]
 pub enum Number {
     Is(u8),
     None,

@@ -1,4 +1,6 @@
 // The table of 256 rows: what a first byte says of the form, its operation and its slots.
+#![tactic(auto)]
+
 ghost use Rattle.std.specs.Prelude.{◌≡◌, ◌≤◌, get_or};
 ghost use Rattle.mrc_compiler.specs.Choose.{pick, both};
 ghost use Rattle.mrc_compiler.specs.declared.operations.OptionOperation.TheVariants as N;

@@ -1,4 +1,6 @@
 // Reads one instruction at the front of some bytes: a table of 256 rows, one for each first byte, says what follows it.
+#![tactic(auto)]
+
 ghost use Rattle.std.specs.Prelude.{◌≡◌, ◌+◌, ◌≤◌, ◌<◌, eqb, length, get_or, drop, true};
 ghost use Rattle.mrc_compiler.specs.declared.operations.Operation.TheVariants.{XCHG, TEST};
 ghost use Rattle.mrc_compiler.specs.declared.operations.OptionOperation.TheVariants.{Some};
@@ -17,7 +19,7 @@ use x86::{Instruction, Operand, Read};
 use x86_forms::{About, Class, Extension, FormName, Place, Shape, Slot};
 
 // What stands at the front of some bytes.
-#[derive(Drop)]
+#[derive(Clone, Copy)]
 pub enum Decoded {
     // An instruction, the form by which the bytes read, and its length.
     Whole(Instruction, FormName, usize),
@@ -30,7 +32,7 @@ pub enum Decoded {
 }
 
 // Document 01's number of a refusal.
-#[derive(Drop)]
+#[derive(Clone, Copy)]
 pub enum Refusal {
     None,
     Is(u8),

@@ -1,4 +1,6 @@
 // Every string of one or two bytes that reads, whole, as one instruction at offset 0, as the text that `fsqshort` prints (REFERENCE 13).
+#![tactic(auto)]
+
 ghost use Rattle.std.specs.Prelude.{◌≡◌, [], ◌∷◌, ◌++◌, ◌<◌, ◌≤◌, length, drop};
 ghost use Rattle.mrc_compiler.specs.Choose.{pick};
 ghost use Rattle.text_line.specs.Steps.{empty_line, appended};
@@ -9,7 +11,7 @@ ghost use Rattle.short_list.specs.Steps.{whole_in};
 use reader::Decoded;
 use text_line::{Line, empty_line, push, push_decimal, push_hex_byte, write_line};
 
-#[derive(Drop)]
+#[derive(Clone, Copy)]
 pub enum Written {
     Length(usize),
     TooShort,
@@ -89,7 +91,7 @@ fn one_if(t: bool) -> usize
 }
 
 // How many lines were written, and where the last one ended.
-#[derive(Drop)]
+#[derive(Clone, Copy)]
 struct Lines {
     count: usize,
     end: usize,

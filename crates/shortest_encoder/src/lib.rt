@@ -1,4 +1,6 @@
 // Writes the shortest string of a record's instruction, the first of its listing (document 02, No. 8).
+#![tactic(auto)]
+
 ghost use Rattle.std.specs.Prelude.{true, ◌≡◌, ◌<◌, ◌≤◌, take};
 ghost use Rattle.encode_spec.specs.Answer.{outcome, slice_after};
 ghost use Rattle.encode_run.specs.Run.{empty_run, appended};
@@ -17,7 +19,7 @@ use mrc_compiler::encoder::{EncodeError, Encoded, InstructionData};
 use x86::{Instruction, Read};
 
 // The lowest string so far, and its number.
-#[derive(Drop)]
+#[derive(Clone, Copy)]
 pub struct Best {
     run: ByteRun,
     key: u64,

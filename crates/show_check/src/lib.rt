@@ -1,4 +1,6 @@
 // The check of targets: does every near branch of a show go to a record's start or to the end (REFERENCE 17)?
+#![tactic(auto)]
+
 ghost use Rattle.std.specs.Prelude.{◌≡◌, ◌+◌, ◌≤◌, true, length};
 ghost use Rattle.show_file.specs.Show.{record_place, most_records, insn_at};
 ghost use Rattle.show_load.specs.Loading.{walk, measured};

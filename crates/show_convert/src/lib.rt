@@ -1,4 +1,6 @@
 // The converter: a show from a 186 module becomes a show for the 8086 (REFERENCE 16).
+#![tactic(auto)]
+
 ghost use Rattle.std.specs.Prelude.{◌≡◌, ◌++◌, ◌+◌, ◌*◌, ◌<◌, ◌≤◌, false, ltb, pos, length, drop, get_or};
 ghost use Rattle.mrc_compiler.specs.Choose.{pick};
 ghost use Rattle.encode_spec.specs.Records.{dst};

@@ -1,4 +1,6 @@
 // The show file: its header and records, and the questions about the file itself (REFERENCE 8).
+#![tactic(auto)]
+
 ghost use Rattle.std.specs.Prelude.{◌≡◌, ◌+◌, ◌*◌, ◌<◌, ◌≤◌, length};
 ghost use Rattle.mrc_compiler.specs.Refusals.{report_of};
 ghost use Rattle.show_file.specs.Refusals.{number_of};
@@ -6,14 +8,14 @@ ghost use Rattle.show_file.specs.Show.{header_length, u16_at, header, has_mark, 
 
 use mrc_compiler::encoder::{EncodeError, InstructionData};
 
-#[derive(Drop)]
+#[derive(Clone, Copy)]
 pub struct Header {
     pub version: u16,
     pub origin: u16,
     pub count: u16,
 }
 
-#[derive(Drop)]
+#[derive(Clone, Copy)]
 pub enum LoadError {
     // 12.
     NoMark,
@@ -64,7 +66,7 @@ impl LoadError {
     }
 }
 
-#[derive(Drop)]
+#[derive(Clone, Copy)]
 pub enum Opened {
     Show(Header),
     Refused(LoadError),
@@ -76,7 +78,7 @@ const HEADER_LENGTH: usize = 9;
 pub const MOST_RECORDS: u16 = 8000;
 
 // The fewest and the most records of a file.
-#[derive(Drop)]
+#[derive(Clone, Copy)]
 pub enum Counts {
     None,
     Between(u16, u16),

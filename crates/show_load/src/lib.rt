@@ -1,4 +1,6 @@
 // The loader: a show file becomes the image of its records (REFERENCE 8).
+#![tactic(auto)]
+
 ghost use Rattle.std.specs.Prelude.{◌≡◌, ◌<◌, ◌≤◌, true, ◌++◌, length, drop};
 ghost use Rattle.encode_spec.specs.Answer.{bytes};
 ghost use Rattle.encode_run.specs.Run.{empty_run};
@@ -15,7 +17,7 @@ use show_file::{
     Header, LoadError, MOST_RECORDS, Opened, first_unknown, insn_at, open, place_of, record_bytes,
 };
 
-#[derive(Drop)]
+#[derive(Clone, Copy)]
 pub enum Loaded {
     // The header, and the length of the image.
     Image(Header, usize),

@@ -1,4 +1,6 @@
 // A record of a show file becomes an instruction (REFERENCE 8).
+#![tactic(auto)]
+
 ghost use Rattle.std.specs.Prelude.{◌≡◌, ◌+◌, ◌≤◌, true, eqb, length, get_or};
 ghost use Rattle.mrc_compiler.specs.declared.operations.Operation.TheVariants as Op;
 ghost use Rattle.mrc_compiler.specs.declared.encoder.OperandKind.TheVariants as K;

@@ -1,4 +1,6 @@
 // The texts of a show file (REFERENCE 9): the first line and a line for each record, or the refusal; with forms, a line under each record, and under its refusal, says why.
+#![tactic(auto)]
+
 ghost use Rattle.std.specs.Prelude.{◌≡◌, true, false, [], ◌++◌, ◌*◌, ◌<◌, ◌≤◌, length, take, drop};
 ghost use Rattle.mrc_compiler.specs.Choose.{pick};
 ghost use Rattle.encode_form.specs.ByBytes.{question_by};
@@ -19,7 +21,7 @@ use text_line::{
     Line, empty_line, push, push_decimal, push_hex_byte, push_hex_word, push_text, write_line,
 };
 
-#[derive(Drop)]
+#[derive(Clone, Copy)]
 pub enum Listed {
     Length(usize),
     TooShort,

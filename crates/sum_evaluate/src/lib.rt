@@ -1,6 +1,8 @@
 // The evaluator of sums (REFERENCE 12): sum, product and factor call each other, and the remaining text falls. `room` is how many brackets
 // may still be opened: no text makes the calls nest deeper. A row of minus signs, the digits of a number, the terms of a sum and the
 // factors of a product are loops.
+#![tactic(auto)]
+
 ghost use Rattle.std.specs.Prelude.{◌≡◌, true, ◌+◌, ◌*◌, ◌-◌, ◌≤◌, ◌<◌, min, length, drop};
 ghost use Rattle.sum_spec.specs.Sums.{answer_of_value};
 ghost use Rattle.sum_spec.specs.Reading.{answer_of};
@@ -10,14 +12,14 @@ use sum_shape::Shape;
 use sum_spec::{Answer, Value};
 
 // A part's value, and the place behind the part.
-#[derive(Drop)]
+#[derive(Clone, Copy)]
 pub struct Part {
     pub value: Value,
     pub at: usize,
 }
 
 // A number, at most 2,147,483,649 for all that are larger, and the place behind its digits.
-#[derive(Drop)]
+#[derive(Clone, Copy)]
 pub struct Numeral {
     pub n: u64,
     pub at: usize,

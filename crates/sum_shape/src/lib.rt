@@ -1,11 +1,13 @@
 // The syntax pass: whether a text is a sum (REFERENCE 12), and how deep it is, in one loop with two counters, so that no depth
 // of brackets and no row of minus signs costs machine stack.
+#![tactic(auto)]
+
 ghost use Rattle.std.specs.Prelude.{◌≡◌, ◌+◌, ◌<◌, ◌^◌};
 ghost use Rattle.sum_spec.specs.Reading.{token_of, reading};
 ghost use Rattle.sum_shape.specs.Pass.{kind_of, shape_of, stuck_pass, pass_after, pass_due, pass_digits, pass_next, pass_end};
 
 // What a byte may be to the pass.
-#[derive(Drop)]
+#[derive(Clone, Copy)]
 pub enum Kind {
     Digit,
     Operator,
@@ -16,7 +18,7 @@ pub enum Kind {
 }
 
 // Where the pass stands: a factor is due, in its digits, behind a factor, or no text begins so.
-#[derive(Drop)]
+#[derive(Clone, Copy)]
 pub enum Stand {
     Due,
     Digits,
@@ -25,14 +27,14 @@ pub enum Stand {
 }
 
 // Where the pass stands, how many brackets are open, and how many were at most.
-#[derive(Drop)]
+#[derive(Clone, Copy)]
 pub struct Pass {
     pub stand: Stand,
     pub depth: usize,
     pub deepest: usize,
 }
 
-#[derive(Drop)]
+#[derive(Clone, Copy)]
 pub enum Shape {
     Deep(usize),
     NoText,

@@ -1,4 +1,6 @@
 // The line that `fsqsum` prints for a text: its value, or the refusal (REFERENCE 12).
+#![tactic(auto)]
+
 ghost use Rattle.std.specs.Prelude.{◌≡◌, length};
 ghost use Rattle.sum_spec.specs.Sums.{refused};
 ghost use Rattle.text_line.specs.Steps.{appended};
@@ -7,7 +9,7 @@ ghost use Rattle.sum_text.specs.Lines.{line_of, answer_line, answered, slice_aft
 use sum_spec::Answer;
 use text_line::{Line, empty_line, push, push_decimal, push_long_signed, push_text, write_line};
 
-#[derive(Drop)]
+#[derive(Clone, Copy)]
 pub enum Answered {
     Length(usize),
     TooShort,

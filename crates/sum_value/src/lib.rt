@@ -1,4 +1,6 @@
 // The arithmetic of sums (REFERENCE 12): each step is made in 64 bits and kept where it is an i32.
+#![tactic(auto)]
+
 ghost use Rattle.std.specs.Prelude.{◌≡◌, neg_ℤ, ◌+ℤ◌, ◌-ℤ◌, ◌*ℤ◌};
 ghost use Rattle.sum_spec.specs.Sums.{kept, negated, sum_of, difference_of, product_of, quotient, quotient_of};
 ghost use Rattle.sum_value.specs.Worth.{negations};

@@ -1,4 +1,6 @@
-// The plain encoder by itself, with what `fsq_encode` promises (`rt staticlib test_plain`): what the faster one has to equal is run beside it in the tests and measured.
+// The plain encoder by itself, with what `fsq_encode` promises (`tools/staticlib test_plain`): what the faster one has to equal is run beside it in the tests and measured.
+#![tactic(auto)]
+
 ghost use Rattle.std.specs.Prelude.{◌≡◌};
 ghost use Rattle.foreign_report.specs.Crossing.{report_after};
 ghost use Rattle.foreign.specs.EncodeRecord.{record_of, response_record, out_after};

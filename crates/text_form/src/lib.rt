@@ -1,4 +1,6 @@
 // The line that `fsqform` prints for a ground: a form, or a question (REFERENCE 9).
+#![tactic(auto)]
+
 ghost use Rattle.std.specs.Prelude.{◌≡◌};
 ghost use Rattle.encode_spec.specs.Records.{dst, src};
 ghost use Rattle.encode_form.specs.Ground.{ground};

@@ -1,10 +1,12 @@
 // A line of text, filled byte by byte: words, hexadecimal and decimal numbers.
+#![tactic(auto)]
+
 ghost use Rattle.std.specs.Prelude.{◌≡◌, ◌++◌, ◌≤◌, length, take, drop};
 ghost use Rattle.text_line.specs.Numbers.{hex_digit, hex_byte, hex_word, digit_from, decimal, long_decimal, sign, signed, long_signed};
 ghost use Rattle.text_line.specs.Steps.{line_length, empty_line, pushed, appended};
 
 // A line of text: bytes and how many of them are there.
-#[derive(Drop)]
+#[derive(Clone, Copy)]
 pub struct Line {
     pub bytes: [u8; 96],
     pub len: usize,

@@ -1,4 +1,6 @@
 // An instruction as it counts for 'same instruction' (REFERENCE 6), and what a reading gives.
+#![tactic(auto)]
+
 ghost use Rattle.std.specs.Prelude.{◌≡◌, ◌<◌};
 ghost use Rattle.x86.specs.Reading.{displacement_length, is_repeat};
 
@@ -9,7 +11,7 @@ use mrc_compiler::operations::Operation;
 pub mod operands;
 
 // A used operand.
-#[derive(Drop)]
+#[derive(Clone, Copy)]
 pub enum Operand {
     None,
 
@@ -36,7 +38,7 @@ pub enum Operand {
 }
 
 // Two records or byte strings are the same instruction where these are equal.
-#[derive(Drop)]
+#[derive(Clone, Copy)]
 pub struct Instruction {
     // The byte of REPNE or REP, F2 or F3, before a string operation; 0 where there is none.
     pub repeat: u8,
@@ -49,7 +51,7 @@ pub struct Instruction {
 }
 
 // What stands at the front of some bytes.
-#[derive(Drop)]
+#[derive(Clone, Copy)]
 pub enum Read {
     // An instruction, with its length.
     Whole(Instruction, usize),

@@ -24,7 +24,7 @@ pub const FAR: u8 = 6;
 pub const ONE: u8 = 7;
 
 // An operand without its values: its kind, and its register's number or base.
-#[derive(Drop)]
+#[derive(Clone, Copy)]
 pub struct OperandType {
     pub kind: u8,
     pub number: u8,

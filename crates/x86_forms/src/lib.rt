@@ -1,11 +1,13 @@
 // The words of the table of forms (x86, specs/Forms, which has them in the book's notation), and what is known of a slot.
+#![tactic(auto)]
+
 ghost use Rattle.std.specs.Prelude.{◌≡◌};
 ghost use Rattle.x86_forms.specs.Slots.{about};
 
 use mrc_compiler::encoder::OperandSize;
 
 // Where an operand stands.
-#[derive(Drop)]
+#[derive(Clone, Copy)]
 pub enum Slot {
     // The r/m field of ModRM, a register or memory.
     Rm(OperandSize),
@@ -74,7 +76,7 @@ pub enum Slot {
 }
 
 // What the opcode column has beside the opcode.
-#[derive(Drop)]
+#[derive(Clone, Copy)]
 pub enum Extension {
     None,
 
@@ -95,14 +97,14 @@ pub enum Extension {
 }
 
 // A form as the manual names it: the opcode as printed, and its extension.
-#[derive(Drop)]
+#[derive(Clone, Copy)]
 pub struct FormName {
     pub opcode: u8,
     pub extension: Extension,
 }
 
 // How a slot names memory.
-#[derive(Drop)]
+#[derive(Clone, Copy)]
 pub enum Place {
     Nowhere,
     ByModRm,
@@ -111,7 +113,7 @@ pub enum Place {
 }
 
 // Which bytes a slot has.
-#[derive(Drop)]
+#[derive(Clone, Copy)]
 pub enum Restriction {
     Any,
 
@@ -127,7 +129,7 @@ pub enum Restriction {
 }
 
 // What is known of a slot before the bytes behind the opcode are read.
-#[derive(Drop)]
+#[derive(Clone, Copy)]
 pub struct About {
     // The width that it states.
     pub width: OperandSize,
@@ -139,7 +141,7 @@ pub struct About {
 }
 
 // An extension, whatever its digit.
-#[derive(Drop)]
+#[derive(Clone, Copy)]
 pub enum Class {
     Unused,
     Plain,
@@ -151,7 +153,7 @@ pub enum Class {
 }
 
 // What the forms of a row have in common.
-#[derive(Drop)]
+#[derive(Clone, Copy)]
 pub struct Shape {
     pub class: Class,
     pub first: Slot,

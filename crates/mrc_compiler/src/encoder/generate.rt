@@ -3,7 +3,7 @@ pub const FIRST_OPER_DST: u8 = 0;
 
 pub const FIRST_OPER_SRC: u8 = 1;
 
-#[derive(Drop)]
+#[derive(Clone, Copy)]
 pub enum Code {
     // Emits the given byte.
     Byte(u8),
@@ -49,7 +49,7 @@ pub enum Code {
 }
 
 // One or two codes: &[Code] of the Rust. Where there is one, the second is a copy that nobody reads.
-#[derive(Drop)]
+#[derive(Clone, Copy)]
 pub struct Codes {
     pub first: Code,
     pub second: Code,
@@ -57,7 +57,7 @@ pub struct Codes {
 }
 
 // Why a group turns a record away before a byte is emitted.
-#[derive(Drop)]
+#[derive(Clone, Copy)]
 pub enum Why {
     InvalidOperands,
     OperandSizeNotSpecified,
@@ -70,14 +70,14 @@ pub enum Why {
 }
 
 // Whose span is reported.
-#[derive(Drop)]
+#[derive(Clone, Copy)]
 pub enum At {
     Operands,
     First,
 }
 
 // What a group answers: the codes to emit, or the refusal. In 000 each group calls emit_codes itself.
-#[derive(Drop)]
+#[derive(Clone, Copy)]
 pub enum Plan {
     Emit(Codes),
     Refused(Why, At),

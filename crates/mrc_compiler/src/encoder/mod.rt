@@ -17,7 +17,7 @@ pub fn value_is_byte(value: i32) -> bool
     0 <= value && value <= 255
 }
 
-#[derive(Drop)]
+#[derive(Clone, Copy)]
 pub enum RequiredByte {
     Ok(u8),
     Err(EncodeError),
@@ -41,7 +41,7 @@ pub fn value_is_signed_byte(value: i32) -> bool
     -128 <= value && value <= 127
 }
 
-#[derive(Drop)]
+#[derive(Clone, Copy)]
 pub enum RequiredSignedByte {
     Ok(i8),
     Err(EncodeError),
@@ -65,7 +65,7 @@ pub fn value_is_word(value: i32) -> bool
     0 <= value && value <= 65535
 }
 
-#[derive(Drop)]
+#[derive(Clone, Copy)]
 pub enum RequiredWord {
     Ok(u16),
     Err(EncodeError),
@@ -89,7 +89,7 @@ pub fn value_is_signed_word(value: i32) -> bool
     -32768 <= value && value <= 32767
 }
 
-#[derive(Drop)]
+#[derive(Clone, Copy)]
 pub enum RequiredSignedWord {
     Ok(i16),
     Err(EncodeError),
@@ -108,7 +108,7 @@ pub fn require_value_is_signed_word(value: i32, span: Span) -> RequiredSignedWor
 
 // The refusals of the encoder. 000 has the first six; the last four are those of questions 2, 1 and 8, which 000 does not ask.
 // Their numbers and values are those of specs/Refusals.
-#[derive(Drop)]
+#[derive(Clone, Copy)]
 pub enum EncodeError {
     InvalidOperands(Span),
     OperandSizeNotSpecified(Span),
@@ -143,7 +143,7 @@ impl EncodeError {
 }
 
 // Result<(), EncodeError> of encode: the number of bytes written, or the refusal.
-#[derive(Drop)]
+#[derive(Clone, Copy)]
 pub enum Encoded {
     Length(usize),
     Refused(EncodeError),
@@ -156,7 +156,7 @@ pub fn segment_prefix_for(seg: Segment) -> u8
     0x26 + seg.encoding() * 8
 }
 
-#[derive(Drop)]
+#[derive(Clone, Copy)]
 pub enum OperandKind {
     Imm,
     Reg,
@@ -164,7 +164,7 @@ pub enum OperandKind {
     Mem,
 }
 
-#[derive(Drop)]
+#[derive(Clone, Copy)]
 pub enum OperandSize {
     Unspecified,
     Byte,
@@ -196,7 +196,7 @@ impl OperandSize {
 }
 
 // The Rust's Option<JumpKind>.
-#[derive(Drop)]
+#[derive(Clone, Copy)]
 pub enum JumpKind {
     None,
     Far,
@@ -204,7 +204,7 @@ pub enum JumpKind {
     Short,
 }
 
-#[derive(Drop)]
+#[derive(Clone, Copy)]
 pub struct OperandData {
     // The operand's place in the source text.
     pub span: Span,
@@ -444,7 +444,7 @@ pub fn operand_size_from_data_size(data_size: OptionDataSize) -> OperandSize
     }
 }
 
-#[derive(Drop)]
+#[derive(Clone, Copy)]
 pub struct InstructionData {
     pub operation: Operation,
     pub num_opers: u8,
