@@ -30,7 +30,11 @@ fn compile_input(rt: &(impl Input + Print + Eprint)) -> Result<(), Failure> {
 }
 
 fn main(rt: HostRuntime) {
-    if !input::called_alone(&rt.stderr(), input::word_count(&rt), b"usage: fsqcue < CUES > IMAGE\n") {
+    if !input::called_alone(
+        &rt.stderr(),
+        input::word_count(&rt),
+        b"usage: fsqcue < CUES > IMAGE\n",
+    ) {
         return;
     }
     if let Err(failure) = compile_input(&rt) {

@@ -22,7 +22,11 @@ fn list_input(rt: &(impl Input + Print)) -> Result<(), Failure> {
 }
 
 fn main(rt: HostRuntime) {
-    if !input::called_alone(&rt.stderr(), input::word_count(&rt), b"usage: fsqform < SHOW.fsq\n") {
+    if !input::called_alone(
+        &rt.stderr(),
+        input::word_count(&rt),
+        b"usage: fsqform < SHOW.fsq\n",
+    ) {
         return;
     }
     if let Err(failure) = list_input(&rt) {

@@ -123,7 +123,11 @@ fn answer_lines(
 }
 
 fn main(rt: HostRuntime) {
-    if !input::called_alone(&rt.stderr(), input::word_count(&rt), b"usage: fsqsum < TEXTS\n") {
+    if !input::called_alone(
+        &rt.stderr(),
+        input::word_count(&rt),
+        b"usage: fsqsum < TEXTS\n",
+    ) {
         return;
     }
     let mut line = [0; 65536];
