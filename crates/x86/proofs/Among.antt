@@ -17,3 +17,4 @@ at_among (s ∷ l) (suc i) h = later (at_among l i (omega arith))
 pub place : (s : List ℕ) (l : List (List ℕ)) → Among s l → (j : ℕ) × (j < length l) × (get_or l j [] ≡ s)
 place s (t ∷ l) here = (zero, omega arith, refl)
 place s (t ∷ l) (later a) = let (j, h, e) = place s l a in (suc j, omega arith, e)
+place s [] x' = elim x' [ ]

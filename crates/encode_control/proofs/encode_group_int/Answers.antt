@@ -1,0 +1,6 @@
+use mathlib.Core.Path.{◌∙◌}
+use borrow.Author.Rules.{rules}
+use Rattle.encode_control.proofs.encode_group_int.Goals as goal
+
+pub returns : goal.returns
+returns c = c.plain.ensures ∙ rw c.int_form.ensures

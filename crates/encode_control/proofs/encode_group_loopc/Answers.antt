@@ -1,0 +1,6 @@
+use mathlib.Core.Path.{◌∙◌}
+use borrow.Author.Rules.{rules}
+use Rattle.encode_control.proofs.encode_group_loopc.Goals as goal
+
+pub returns : goal.returns
+returns c = c.plain.ensures ∙ rw c.short_form.ensures

@@ -1,0 +1,7 @@
+use mathlib.Core.Path.{◌∙◌}
+use borrow.Author.Rules.{rules}
+use Rattle.encode_dispatch.proofs.Laws.{planned_of}
+use Rattle.encode_dispatch.proofs.plan_of.Goals as goal
+
+pub returns : goal.returns
+returns c = c.plan_for.ensures ∙ rw (c.decide.ensures, c.group_of-grouped.ensures) (planned_of c.args.insn)

@@ -1,0 +1,12 @@
+use mathlib.Core.Path.{sym, ◌∙◌}
+use borrow.Author.Rules.{rules}
+use Rattle.encode_transfer.proofs.encode_group_xchg.Goals as goal
+
+pub returns-in-Is : goal.returns-in-Is
+returns-in-Is c = rw (c.xchg_form-line.ensures, c.is_ax-src_ax.ensures, c.is_ax-dst_ax.ensures, sym c.common_operand_size.ensures ∙ c.in-Is.is)
+
+pub returns-in-NotSpecified : goal.returns-in-NotSpecified
+returns-in-NotSpecified c = rw (sym c.common_operand_size.ensures ∙ c.in-NotSpecified.is) c.plain.ensures
+
+pub returns-in-DoNotMatch : goal.returns-in-DoNotMatch
+returns-in-DoNotMatch c = rw (sym c.common_operand_size.ensures ∙ c.in-DoNotMatch.is) c.plain-in-DoNotMatch.ensures
