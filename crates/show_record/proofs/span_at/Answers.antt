@@ -1,0 +1,5 @@
+use borrow.Author.Rules.{rules}
+use Rattle.show_record.proofs.span_at.Goals as goal
+
+pub returns : goal.returns
+returns c = rw (c.u32_at.ensures, c.u32_at-2.ensures)

@@ -1,0 +1,15 @@
+use native.Mathlib.Omega.{arith}
+use borrow.Author.Rules.{rules}
+use mathlib.Core.Path.{◌≡◌, refl, ◌∙◌}
+use Prim.Native.Nat.{ℕ, zero, suc, ◌-◌, ◌≤◌, ◌<◌}
+use native.Mathlib.Numerals.{sub-one}
+use Rattle.sum_spec.specs.declared.Value.{Value}
+use Rattle.sum_spec.specs.Sums.{negated}
+use Rattle.sum_value.specs.Worth.{negations}
+use Rattle.sum_value.proofs.negate_times.Given as goal
+
+abbrev pub invariant-loop-left : goal.invariant-loop-left
+invariant-loop-left l = negations l.left l.w ≡ negations l.initial.left l.initial.w
+
+abbrev pub decreases-loop-left : goal.decreases-loop-left
+decreases-loop-left l = l.left

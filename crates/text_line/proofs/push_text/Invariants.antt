@@ -1,0 +1,14 @@
+use mathlib.Core.Path.{◌≡◌, refl}
+use Prim.Native.Nat.{◌≤◌, ◌-◌}
+use lib.ListN.{length, take}
+use borrow.Author.Rules.{rules}
+use lib.Seq.{take_all}
+use Rattle.text_line.specs.Steps.{appended}
+use Rattle.text_line.proofs.Laws.{text_more}
+use Rattle.text_line.proofs.push_text.Given as goal
+
+abbrev pub invariant-loop-i : goal.invariant-loop-i
+invariant-loop-i l = (l.i ≤ length l.text) × (l.so_far ≡ appended l.initial.so_far (take l.i l.text))
+
+abbrev pub decreases-loop-i : goal.decreases-loop-i
+decreases-loop-i l = length l.text - l.i
