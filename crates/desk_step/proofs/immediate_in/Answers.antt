@@ -1,0 +1,5 @@
+use Rattle.std.proofs.Common.{rules}
+use Rattle.desk_step.proofs.immediate_in.Goals as goal
+
+pub returns-in-Immediate : goal.returns-in-Immediate
+returns-in-Immediate c = rw c.in-Immediate.is

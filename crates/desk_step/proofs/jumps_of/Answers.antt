@@ -1,0 +1,5 @@
+use Rattle.std.proofs.Common.{sym, ◌∙◌, rules}
+use Rattle.desk_step.proofs.jumps_of.Goals as goal
+
+pub returns-in-Is : goal.returns-in-Is
+returns-in-Is c = rw (sym c.near_in-first.ensures ∙ c.in-Is.is)

@@ -1,0 +1,5 @@
+use Rattle.std.proofs.Common.{rules}
+use Rattle.list_candidates.proofs.push_word.Goals as goal
+
+pub returns : goal.returns
+returns c = rw c.push-first.ensures at c.push.ensures

@@ -1,0 +1,27 @@
+use Rattle.std.proofs.Common.{rules, eq-eqb, ne_eqb}
+use Rattle.list_spec.specs.Starts.{move_from}
+use Rattle.list_starts.proofs.move_from.Goals as goal
+
+pub sized_opcode-requires : goal.sized_opcode-requires
+unfolding move_from
+sized_opcode-requires c = search rules
+
+pub start_with_rm-requires : goal.start_with_rm-requires
+unfolding move_from
+start_with_rm-requires c = search rules
+
+pub returns-then-encoding-eq-PRIMARY : goal.returns-then-encoding-eq-PRIMARY
+unfolding move_from
+returns-then-encoding-eq-PRIMARY c = rw (eq-eqb _ _ c.if-encoding-eq-PRIMARY.true) (rw c.sized_opcode.ensures at c.start_with_rm.ensures)
+
+pub sized_opcode-requires-2 : goal.sized_opcode-requires-2
+unfolding move_from
+sized_opcode-requires-2 c = search rules
+
+pub bare_start-requires : goal.bare_start-requires
+unfolding move_from
+bare_start-requires c = search rules
+
+pub returns : goal.returns
+unfolding move_from
+returns c = rw (ne_eqb _ _ c.if-encoding-eq-PRIMARY.false) (rw c.sized_opcode-2.ensures at c.bare_start.ensures)

@@ -1,0 +1,5 @@
+use Rattle.std.proofs.Common.{rules}
+use Rattle.list_starts.proofs.plus_opcode.Goals as goal
+
+pub returns : goal.returns
+returns c = c.wrapping_add_u8.ensures.value
