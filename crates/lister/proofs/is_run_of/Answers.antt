@@ -1,0 +1,5 @@
+use borrow.Author.Rules.{rules}
+use Rattle.lister.proofs.is_run_of.Goals as goal
+
+pub returns : goal.returns
+returns c = rw c.read_run.ensures at c.is_whole.ensures
