@@ -1,0 +1,18 @@
+use mathlib.Core.Path.{sym, ◌∙◌, ap}
+use mir.Syntax.{w32}
+use mir.Val.{SFits}
+use mir.ValLaws.{to_z-of_z}
+use Rattle.convert_spec.specs.Targets.{is_branch}
+use borrow.Author.Rules.{rules}
+use Rattle.convert_passes.proofs.new_insn.Goals as goal
+
+pub new_imm-requires : goal.new_imm-requires
+new_imm-requires c = let p = c.requires in (p.0, p.1, (sym (ap is_branch c.branch_of.ensures) ∙ (sym c.is_branch.ensures ∙ c.if-is_branch.true)), p.2)
+
+pub returns-then-is_branch : goal.returns-then-is_branch
+returns-then-is_branch c =
+    let f : SFits w32 c.new_imm.result = search rules in
+    rw (sym (ap is_branch c.branch_of.ensures) ∙ (sym c.is_branch.ensures ∙ c.if-is_branch.true)) (rw (to_z-of_z w32 c.new_imm.result f, c.new_imm.ensures) at c.with_first.ensures)
+
+pub returns-else-is_branch : goal.returns-else-is_branch
+returns-else-is_branch c = rw (sym (ap is_branch c.branch_of.ensures) ∙ (sym c.is_branch.ensures ∙ c.if-is_branch.false)) c.by_one.ensures

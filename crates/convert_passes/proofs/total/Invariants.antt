@@ -1,0 +1,16 @@
+use Rattle.show_file.specs.Show.{insn_at}
+use Rattle.convert_spec.specs.Counts.{times}
+use Prim.Native.Nat.{◌≤◌, ◌-◌, ◌*◌}
+use mathlib.Core.Path.{◌≡◌, refl, sym, ◌∙◌, ap}
+use native.Mathlib.Omega.{arith}
+use Rattle.convert_spec.specs.OldStarts.{first_copy}
+use Rattle.convert_laws.proofs.Ranges.{times_within}
+use Rattle.convert_passes.proofs.Laws.{copies_next}
+use borrow.Author.Rules.{rules}
+use Rattle.convert_passes.proofs.total.Given as goal
+
+abbrev pub invariant-loop-k : goal.invariant-loop-k
+invariant-loop-k l = (l.k ≤ l.n) × (l.sum ≡ first_copy l.file l.k) × (l.sum ≤ 31 * l.k)
+
+abbrev pub decreases-loop-k : goal.decreases-loop-k
+decreases-loop-k l = l.n - l.k

@@ -1,0 +1,8 @@
+use Rattle.std.proofs.Common.{◌≡◌, sym, refl, ap, ◌∙◌, arith, rules}
+use Rattle.fast_run.specs.Packed.{digits, unpacked}
+use Rattle.fast_run.proofs.Laws.{ne_positive}
+use Rattle.fast_forms.proofs.Laws.{in_opcode}
+use Rattle.fast_forms.proofs.reg_run.Goals as goal
+
+pub returns : goal.returns
+returns c = λ k off ek h. in_opcode _ c.requires.0 k off _ _ _ ek c.requires.1.0.formed.rm c.requires.1.1 c.bare_run.ensures

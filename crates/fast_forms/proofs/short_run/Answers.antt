@@ -1,0 +1,12 @@
+use Rattle.mrc_compiler.specs.declared.encoder.generate.Code.TheVariants as C
+use Rattle.std.proofs.Common.{◌≡◌, ◌%◌, sym, refl, ap, ◌∙◌, arith, rules}
+use Rattle.fast_run.specs.Packed.{digits, unpacked}
+use Rattle.fast_run.proofs.Laws.{ne_positive}
+use Rattle.fast_forms.proofs.Laws.{byte_then, rel_byte}
+use Rattle.fast_forms.proofs.short_run.Goals as goal
+
+pub returns-then-in_range : goal.returns-then-in_range
+returns-then-in_range c = λ h. byte_then _ c.requires c.args.offset (C.RelByte 0 2) 1 (c.wrapping_sub_u32-distance.result % 256) (rel_byte _ c.requires c.args.offset c.wrapping_sub_u32-distance.result _ (search rules) (search rules) (c.wrapping_sub_u32-distance.ensures.value ∙ c.u32_at.ensures) (sym c.in_range.ensures ∙ c.if-in_range.true) refl).is _ _ c.bare_run.ensures
+
+pub returns : goal.returns
+returns c = λ h. absurd (omega arith)

@@ -1,0 +1,12 @@
+use Prim.Native.Nat.{◌-◌}
+use native.Mathlib.Omega.{arith}
+use Rattle.fast_run.proofs.Laws.{not_true}
+use Rattle.fast_operand.proofs.Laws.{Before, none, one_more, is_inside, both_formed}
+use borrow.Author.Rules.{rules}
+use Rattle.fast_operand.proofs.are_formed.Given as goal
+
+abbrev pub invariant-loop-at : goal.invariant-loop-at
+invariant-loop-at l = Before l.rec l.at
+
+abbrev pub decreases-loop-at : goal.decreases-loop-at
+decreases-loop-at l = 56 - l.at

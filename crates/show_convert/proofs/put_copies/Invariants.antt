@@ -1,0 +1,15 @@
+use Prim.Native.Nat.{◌≤◌, ◌-◌, ◌*◌}
+use mathlib.Core.Path.{◌≡◌}
+use native.Mathlib.Numerals.{add-one}
+use native.Mathlib.Omega.{arith}
+use Rattle.base_values.proofs.Fronts.{Front, front_start, front_next, lent_length}
+use Rattle.convert_spec.specs.Written.{copies}
+use Rattle.convert_laws.proofs.Written.{copies_length}
+use borrow.Author.Rules.{rules}
+use Rattle.show_convert.proofs.put_copies.Given as goal
+
+abbrev pub invariant-loop-made : goal.invariant-loop-made
+invariant-loop-made l = (l.made ≤ l.times) × (l.at ≡ 56 * l.made) × Front (copies l.made l.rec) l.initial.out l.out
+
+abbrev pub decreases-loop-made : goal.decreases-loop-made
+decreases-loop-made l = l.times - l.made

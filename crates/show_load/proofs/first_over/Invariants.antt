@@ -1,0 +1,12 @@
+use Rattle.show_file.specs.Show.{first_from}
+use Rattle.show_file.proofs.Laws.{from_start, from_yes, from_no, from_end}
+use Rattle.show_load.proofs.Laws.{ran, Upto, upto_start, step_all, over_yes, over_no}
+use Rattle.show_load.specs.Loading.{first_over, is_over}
+use Rattle.std.proofs.Common.{◌≡◌, ◌-◌, ◌≤◌, arith, rules}
+use Rattle.show_load.proofs.first_over.Given as goal
+
+abbrev pub invariant-loop-k : goal.invariant-loop-k
+invariant-loop-k l = (l.k ≤ l.n) × (l.at ≤ l.size) × Upto l.file l.origin l.k l.at × (first_over l.file l.origin l.size l.n ≡ first_from (is_over l.file l.origin l.size) (l.n - l.k) l.k)
+
+abbrev pub decreases-loop-k : goal.decreases-loop-k
+decreases-loop-k l = l.n - l.k

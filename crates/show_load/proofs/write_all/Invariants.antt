@@ -1,0 +1,11 @@
+use Rattle.base_values.proofs.Fronts.{Front, front_start, front_next, lent_length}
+use Rattle.show_load.proofs.Laws.{Upto, upto_start, step_all, step_in}
+use Rattle.show_load.specs.Loading.{walk, bytes_in}
+use Rattle.std.proofs.Common.{◌≡◌, ◌-◌, ◌≤◌, arith, rules}
+use Rattle.show_load.proofs.write_all.Given as goal
+
+abbrev pub invariant-loop-k : goal.invariant-loop-k
+invariant-loop-k l = (l.k ≤ l.n) × Upto l.file l.origin l.k l.at × Front (bytes_in (walk l.file l.origin l.k)) l.initial.image l.image
+
+abbrev pub decreases-loop-k : goal.decreases-loop-k
+decreases-loop-k l = l.n - l.k
