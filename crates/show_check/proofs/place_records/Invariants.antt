@@ -1,0 +1,14 @@
+use Rattle.std.proofs.Common.{◌≡◌, ◌-◌, ◌≤◌, length, refl, ◌∙◌, arith, length-set, rules}
+use Rattle.show_load.proofs.Laws.{ran, Upto, upto_start, within_seven}
+use Rattle.show_check.proofs.Steps.{step_none, step_refused}
+use Rattle.convert_laws.specs.Passed.{Table}
+use Rattle.convert_passes.proofs.Laws.{table_start, table_next}
+use Rattle.check_spec.specs.Checking.{start_of}
+use Rattle.encode_spec.proofs.Values.{false-true}
+use Rattle.show_check.proofs.place_records.Given as goal
+
+abbrev pub invariant-loop-k : goal.invariant-loop-k
+invariant-loop-k l = (l.k ≤ l.n) × Upto l.file l.origin l.k l.at × (length l.starts ≡ length l.initial.starts) × Table (start_of l.file l.origin) l.k l.starts
+
+abbrev pub decreases-loop-k : goal.decreases-loop-k
+decreases-loop-k l = l.n - l.k

@@ -1,0 +1,13 @@
+use Rattle.std.proofs.Common.{◌≡◌, ◌-◌, ◌≤◌, rules}
+use Rattle.show_file.specs.Show.{first_from}
+use Rattle.show_file.proofs.Laws.{from_start, from_yes, from_no, from_end}
+use Rattle.convert_passes.specs.Passes.{place}
+use Rattle.check_spec.specs.Checking.{is_inside, record_around}
+use Rattle.show_check.proofs.Laws.{inside_yes, inside_no}
+use Rattle.show_check.proofs.record_around.Given as goal
+
+abbrev pub invariant-loop-k : goal.invariant-loop-k
+invariant-loop-k l = (l.k ≤ l.n) × (record_around (place l.starts) l.n l.target ≡ first_from (is_inside (place l.starts) l.target) (l.n - l.k) l.k)
+
+abbrev pub decreases-loop-k : goal.decreases-loop-k
+decreases-loop-k l = l.n - l.k
