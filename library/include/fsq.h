@@ -1,5 +1,5 @@
 /* The 8086 encoder for show files, as C (from C99) and C++ (from C++11) call it: libfsq.a, for x86-64 Linux. tools/staticlib writes it to
- * target/staticlib, where libforeign.a is the same archive under the name that `rt staticlib foreign` gives it. `make -C library install` and
+ * target/staticlib, where libforeign.a is the same archive under the name of the crate that its functions are from. `make -C library install` and
  * library/CMakeLists.txt install header, library and fsq.pc, its pkg-config file.
  *
  * This header has, in this order: the numbers and offsets; the functions of the library; and over them inline functions, which a program

@@ -10,7 +10,7 @@ fn main() {
     let built = Path::new(env!("CARGO_MANIFEST_DIR")).join("../../target/staticlib");
     let libraries = match env::var_os("FSQ_LIBRARY") {
         Some(path) => vec![PathBuf::from(path)],
-        // Without the link that tools/staticlib makes, what `rt staticlib foreign` writes.
+        // tools/staticlib writes it as libforeign.a, and libfsq.a is a second name of that file.
         None => vec![built.join("libfsq.a"), built.join("libforeign.a")],
     };
     for library in &libraries {
