@@ -138,7 +138,7 @@ def source():
     crossing |= code['load'].numbers(r'LoadError::(\w+)(?:\(k\))? => (?:of_record\()?response_alone\((\d+)\)', 4, snake)
     crossing |= code['evaluate'].numbers(r'Answer::(\w+) => response_alone\((\d+)\),', 3, named)
     code['cue'].one(r'Compiled::Refused\(error\) => response_alone\(error\.number\(\)\)')
-    code['compiler'].one(r'io::print_decimal\(STDERR_FILENO, error\.number\(\) as u64\)')
+    code['compiler'].one(r'eprintln!\(rt; "refused \{\}", error\.number\(\)\)')
     code['result'].one(r'Ran::Refused\(error\) => \{\s*write_result\(0, 0, out\);\s*error\.number\(\)')
     code['desk_text'].one(r'push_decimal\(word, error\.number\(\) as usize\)')
     crossing = compiled | ran | crossing
@@ -177,13 +177,13 @@ def source():
     repeat = text.part(r'fn record_length\(').number(r'if version == (\d+) \{\s*show_record::LONG_RECORD_LENGTH')
     short, long = sorted(s['version'].keys() - {repeat})
     s['limit'] = {'MOST_RECORDS': most, 'SHORT_RECORDS': s['version'][short][1], 'MOST_ENTRIES': entries, 'FILE_VERSION': short, 'LONG_VERSION': long, 'REPEAT_VERSION': repeat,
-        'MOST_DEPTH': sums.number(r'\nmostDepth = (\d+)')}
+        'MOST_DEPTH': sums.number(r'\nmost_depth = (\d+)')}
     for asked in (r'if depth <= (\d+) ', r'sum\(text, 0, (\d+)\)'):
         twice('limit', code['sum'], {'MOST_DEPTH': code['sum'].number(asked)}, {'MOST_DEPTH': s['limit']['MOST_DEPTH']})
     limits = Text('crates/cue_compile/specs/Cues.antt')
     cues = code['cues'].numbers(r'const (\w+): usize = (\d+);', 4)
     s['limit']['MOST_CUES'] = cues.get('MOST_CUES')
-    twice('limit', limits, {'MOST_CUES': limits.number(r'\nmostCues = (\d+)')}, {'MOST_CUES': s['limit']['MOST_CUES']})
+    twice('limit', limits, {'MOST_CUES': limits.number(r'\nmost_cues = (\d+)')}, {'MOST_CUES': s['limit']['MOST_CUES']})
     # A cue's fields where they are read; its delay has the two bytes at its front.
     s['cue_field'] = code['cues'].numbers(r'(port|mask): cues\[at \+ (\d)\],', 2, lambda n: f'CUE_{n.upper()}_AT')
     s['cue_field'] |= {'CUE_DELAY_AT': 0 if code['cues'].one(r'let low = cues\[at\];\s*let high = cues\[at \+ 1\];') else None}
