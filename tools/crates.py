@@ -66,10 +66,15 @@ def files(*folders):
             yield from (pathlib.Path(at) / it for it in sorted(found))
 
 
-def lacking(name):
-    """The libraries below the crate that are not built from the files that stand here."""
+def unbuilt(name):
+    """The libraries below the crate that are not here, built."""
+    return [it for it in libraries(name) if not (rlib(it) / 'format').exists()]
+
+
+def outdated(name):
+    """The libraries below the crate that may be built from older files than those that stand here."""
     newest = lambda it: max((file.stat().st_mtime for file in files(folder(it))), default=0)
-    return [it for it in libraries(name) if not (rlib(it) / 'format').exists() or rlib(it).stat().st_mtime < newest(it)]
+    return [it for it in libraries(name) if rlib(it).stat().st_mtime < newest(it)]
 
 
 def words(name):
