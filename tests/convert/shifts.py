@@ -46,8 +46,8 @@ def by_count(name, size, count, value, carry):
 
 def rows():
     """A processor's answers: operation, size, count; destination and carry before and behind."""
-    for name, size, *numbers in re.findall(r'row ([A-Z]{3}) (byte|word) (\d+) (\d+) (\d+) (\d+) (\d+)', ROWS.read_text()):
-        yield name, 8 if size == 'byte' else 16, *map(int, numbers)
+    for name, size, *numbers in re.findall(r'row ([a-z]{3}) (byte|word) (\d+) (\d+) (\d+) (\d+) (\d+)', ROWS.read_text()):
+        yield name.upper(), 8 if size == 'byte' else 16, *map(int, numbers)
 
 
 def faults_of_rows():

@@ -77,7 +77,7 @@ def short():
 ROWS = """\
 -- What ndisasm reads of the strings of one and two bytes: tests/short/short.py rows writes this file.
 -- Definitions only.
-use mathlib.Core.List.{{List, [], _∷_}}
+use mathlib.Core.List.{{List, [], ◌∷◌}}
 use Prim.Native.Nat.{{ℕ}}
 
 -- the strings of one byte

@@ -7,31 +7,31 @@ use crate::operations::Operation;
 
 const HEAD: &str = "-- What the Rust's own builders make: each row is a call of ours, and the fields that 000 gives it. tests/differential/run builders writes this file.
 -- Assumes nothing.
-use mathlib.Core.Path.{_≡_, refl}
-use mathlib.Core.List.{[], _∷_}
+use mathlib.Core.Path.{◌≡◌, refl}
+use mathlib.Core.List.{[], ◌∷◌}
 use Prim.Native.Nat.{ℕ}
 use lib.IntN.{ℤ, pos, negsuc}
-use Rattle·mrc_compiler·specs.specs.declared.ast.Span.{Span}
-use Rattle·mrc_compiler·specs.specs.declared.ast.ByteRegister.the-variants as B
-use Rattle·mrc_compiler·specs.specs.declared.ast.WordRegister.the-variants as W
-use Rattle·mrc_compiler·specs.specs.declared.ast.Register.the-variants as R
-use Rattle·mrc_compiler·specs.specs.declared.ast.Segment.the-variants as G
-use Rattle·mrc_compiler·specs.specs.declared.ast.DataSize.the-variants as D
-use Rattle·mrc_compiler·specs.specs.declared.ast.IndirectEncoding.the-variants as I
-use Rattle·mrc_compiler·specs.specs.declared.ast.OptionDataSize.the-variants as OD
-use Rattle·mrc_compiler·specs.specs.declared.ast.OptionSegment.the-variants as OG
-use Rattle·mrc_compiler·specs.specs.declared.operations.Operation.{Operation}
-use Rattle·mrc_compiler·specs.specs.declared.operations.Operation.the-variants as Op
-use Rattle·mrc_compiler·specs.specs.declared.encoder.OperandKind.{OperandKind}
-use Rattle·mrc_compiler·specs.specs.declared.encoder.OperandKind.the-variants as K
-use Rattle·mrc_compiler·specs.specs.declared.encoder.OperandSize.{OperandSize}
-use Rattle·mrc_compiler·specs.specs.declared.encoder.OperandSize.the-variants as S
-use Rattle·mrc_compiler·specs.specs.declared.encoder.JumpKind.{JumpKind}
-use Rattle·mrc_compiler·specs.specs.declared.encoder.JumpKind.the-variants as J
-use Rattle·mrc_compiler·specs.specs.declared.encoder.OperandData.{OperandData}
-use Rattle·mrc_compiler·specs.specs.declared.encoder.InstructionData.{InstructionData}
-use Rattle·mrc_compiler·specs.specs.Registers.{register, dataSizeOf, segment, indirectEncoding}
-use Rattle·mrc_compiler·specs.specs.Builders.{sizeFromSome, immediateOperand, farOperand, registerOperand, segmentOperand, directOperand, indirectOperand, noOperands, oneOperand, twoOperands}
+use Rattle.mrc_compiler.specs.declared.ast.Span.{Span}
+use Rattle.mrc_compiler.specs.declared.ast.ByteRegister.TheVariants as B
+use Rattle.mrc_compiler.specs.declared.ast.WordRegister.TheVariants as W
+use Rattle.mrc_compiler.specs.declared.ast.Register.TheVariants as R
+use Rattle.mrc_compiler.specs.declared.ast.Segment.TheVariants as G
+use Rattle.mrc_compiler.specs.declared.ast.DataSize.TheVariants as D
+use Rattle.mrc_compiler.specs.declared.ast.IndirectEncoding.TheVariants as I
+use Rattle.mrc_compiler.specs.declared.ast.OptionDataSize.TheVariants as OD
+use Rattle.mrc_compiler.specs.declared.ast.OptionSegment.TheVariants as OG
+use Rattle.mrc_compiler.specs.declared.operations.Operation.{Operation}
+use Rattle.mrc_compiler.specs.declared.operations.Operation.TheVariants as Op
+use Rattle.mrc_compiler.specs.declared.encoder.OperandKind.{OperandKind}
+use Rattle.mrc_compiler.specs.declared.encoder.OperandKind.TheVariants as K
+use Rattle.mrc_compiler.specs.declared.encoder.OperandSize.{OperandSize}
+use Rattle.mrc_compiler.specs.declared.encoder.OperandSize.TheVariants as S
+use Rattle.mrc_compiler.specs.declared.encoder.JumpKind.{JumpKind}
+use Rattle.mrc_compiler.specs.declared.encoder.JumpKind.TheVariants as J
+use Rattle.mrc_compiler.specs.declared.encoder.OperandData.{OperandData}
+use Rattle.mrc_compiler.specs.declared.encoder.InstructionData.{InstructionData}
+use Rattle.mrc_compiler.specs.Registers.{register, data_size_of, segment, indirect_encoding}
+use Rattle.mrc_compiler.specs.Builders.{size_from_some, immediate_operand, far_operand, register_operand, segment_operand, direct_operand, indirect_operand, no_operands, one_operand, two_operands}
 
 module _ (s : Span) where
   -- kind, size, prefix, displacement size, jump kind, mode, r/m, immediate, displacement: the order of a show file's record
@@ -40,17 +40,17 @@ module _ (s : Span) where
     span = s;
     size = size;
     kind = kind;
-    «segment_prefix» = prefix;
+    segment_prefix = prefix;
     imm = imm;
     displacement = displacement;
-    «displacement_size» = length;
-    «jmp_kind» = jump;
+    displacement_size = length;
+    jmp_kind = jump;
     mode = mode;
     rm = rm;
   }
 
   abbrev made : Operation → ℕ → OperandData → OperandData → InstructionData
-  made op count a b = record { operation = op; «num_opers» = count; repeat = 0; opers = a ∷ b ∷ []; «opers_span» = s }
+  made op count a b = record { operation = op; num_opers = count; repeat = 0; opers = a ∷ b ∷ []; opers_span = s }
 
   record Rows : Type 0 where";
 
@@ -86,7 +86,7 @@ pub fn print() {
     }
     for (name, variant) in named!(Segment: ES CS SS DS) {
         let made = OperandData::segment(SPAN, variant.encoding());
-        rows.operand(format!("segment-{}", name.to_lowercase()), format!("segmentOperand s (segment G.{name})"), made);
+        rows.operand(format!("segment_{}", name.to_lowercase()), format!("segment_operand s (segment G.{name})"), made);
     }
 
     let sizes = || [("OD.None", None), ("(OD.Some D.Byte)", Some(DataSize::Byte)), ("(OD.Some D.Word)", Some(DataSize::Word))];
@@ -98,7 +98,7 @@ pub fn print() {
         let address = [0, 4660, 65535, -1, -32768][i];
         let (size, data_size) = &sizes()[i % 3];
         let made = OperandData::direct(SPAN, address, data_size, &seg_override);
-        rows.operand(format!("direct-{i}"), format!("directOperand s {} {size} {seg}", integer(address)), made);
+        rows.operand(format!("direct_{i}"), format!("direct_operand s {} {size} {seg}", integer(address)), made);
     }
     let bases = named!(IndirectEncoding: BxSi BxDi BpSi BpDi Si Di Bp Bx);
     for (i, (name, base)) in bases.iter().enumerate() {
@@ -110,24 +110,24 @@ pub fn print() {
             let (size, data_size) = &sizes()[(i + j) % 3];
             let (seg, seg_override) = segments().nth((i + 2 * j) % 5).unwrap();
             let made = OperandData::indirect(SPAN, base.encoding(), displacement, data_size, &seg_override);
-            let call = format!("indirectOperand s (indirectEncoding I.{name}) {} {size} {seg}", integer(displacement as i32));
-            rows.operand(format!("indirect-{}-{j}", name.to_lowercase()), call, made);
+            let call = format!("indirect_operand s (indirect_encoding I.{name}) {} {size} {seg}", integer(displacement as i32));
+            rows.operand(format!("indirect_{}_{j}", name.to_lowercase()), call, made);
         }
     }
 
     for (i, value) in [0, 5, -1, 65535, i32::MIN, i32::MAX].into_iter().enumerate() {
-        rows.operand(format!("immediate-{i}"), format!("immediateOperand s {}", integer(value)), OperandData::immediate(SPAN, value));
+        rows.operand(format!("immediate_{i}"), format!("immediate_operand s {}", integer(value)), OperandData::immediate(SPAN, value));
     }
-    rows.operand("empty".to_string(), "immediateOperand s (pos 0)".to_string(), OperandData::empty(SPAN));
+    rows.operand("empty".to_string(), "immediate_operand s (pos 0)".to_string(), OperandData::empty(SPAN));
     for (i, (offset, segment)) in [(4660, 22136), (-1, -2)].into_iter().enumerate() {
-        rows.operand(format!("far-{i}"), format!("farOperand s {} {}", integer(offset), integer(segment)), OperandData::far(SPAN, offset, segment));
+        rows.operand(format!("far_{i}"), format!("far_operand s {} {}", integer(offset), integer(segment)), OperandData::far(SPAN, offset, segment));
     }
 
     let five = || OperandData::immediate(SPAN, 5);
     let ax = || OperandData::register(SPAN, 0, OperandSize::Word);
-    rows.instruction("none", "noOperands s Op.HLT".to_string(), InstructionData::none(SPAN, Operation::HLT));
-    rows.instruction("one", "oneOperand s Op.INT (immediateOperand s (pos 5))".to_string(), InstructionData::dst(SPAN, Operation::INT, five()));
-    let call = "twoOperands s Op.MOV (registerOperand s 0 S.Word) (immediateOperand s (pos 5))";
+    rows.instruction("none", "no_operands s Op.HLT".to_string(), InstructionData::none(SPAN, Operation::HLT));
+    rows.instruction("one", "one_operand s Op.INT (immediate_operand s (pos 5))".to_string(), InstructionData::dst(SPAN, Operation::INT, five()));
+    let call = "two_operands s Op.MOV (register_operand s 0 S.Word) (immediate_operand s (pos 5))";
     rows.instruction("two", call.to_string(), InstructionData::dst_and_src(SPAN, Operation::MOV, ax(), five()));
 
     println!("{HEAD}");
@@ -143,8 +143,8 @@ pub fn print() {
 
 fn of_register(rows: &mut Rows, size: &str, ours: &str, name: &str, register: Register) {
     let made = OperandData::register(SPAN, register.encoding(), operand_size_from_data_size(&Some(register.data_size())));
-    let call = format!("registerOperand s (register {ours}) (sizeFromSome (dataSizeOf {ours}))");
-    rows.operand(format!("{size}-{}", name.to_lowercase()), call, made);
+    let call = format!("register_operand s (register {ours}) (size_from_some (data_size_of {ours}))");
+    rows.operand(format!("{size}_{}", name.to_lowercase()), call, made);
 }
 
 fn fields(made: &OperandData) -> String {
