@@ -1,8 +1,9 @@
 #!/usr/bin/env python3
-"""rt dev CRATE 2>&1 | tools/printed_proofs.py [-f]
+"""rt check 2>&1 | ../../tools/printed_proofs.py [-f]      in a crate's folder
 
-Writes the proof files that a check prints ('help: write .../Proof.antt with these lines'), which list a function's needs. A file that is there stays, unless -f is given:
-a function that got an arm needs the list anew, and the answers of the old one are put into it by hand (git show HEAD:FILE)."""
+Writes the proof files that a check prints ('help: write ./proofs/F/Answers.antt with these lines', or Invariants.antt), which list a function's open goals with a hole for each. A file that is there
+stays, unless -f is given: a function that got an arm needs the list anew, and the answers of the old one are put into it by hand (git show HEAD:./FILE).
+For one function `rt check --start F` writes the same files, and adds to one that is there what it lacks."""
 import pathlib, re, sys
 
 force = '-f' in sys.argv[1:]
@@ -23,7 +24,7 @@ def keep():
 
 for line in sys.stdin:
     line = line.rstrip('\n')
-    begun = re.match(r'help: write (\S+/Proof\.antt) with these lines', line)
+    begun = re.match(r'help: write (?:\./)?(proofs/\S+\.antt) with these lines', line)
     if begun:
         keep()
         path, lines = begun[1], []
