@@ -1,0 +1,7 @@
+use mathlib.Core.List.{[], ◌∷◌}
+use Rattle.short_list.proofs.Laws.{whole_is}
+use borrow.Author.Rules.{rules}
+use Rattle.short_list.proofs.one_reads.Goals as goal
+
+pub returns : goal.returns
+returns c = rw (← (whole_is (c.args.a ∷ []))) (rw c.read.ensures at c.is_whole.ensures)

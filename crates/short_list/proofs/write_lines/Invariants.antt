@@ -1,0 +1,17 @@
+use Rattle.base_values.proofs.Fronts.{Front, front_start, front_next, lent_length}
+use Rattle.short_list.proofs.Laws.{none_yet, lines_next, count_next, lines_fit, count_fits}
+use Rattle.short_list.proofs.Counts.{count_is, lines_are}
+use Rattle.short_list.specs.Short.{strings, short_of}
+use Rattle.short_list.specs.Text.{lines_of}
+use borrow.Author.Rules.{rules}
+use lib.ListN.{length, length-append}
+use native.Mathlib.Omega.{arith}
+use Prim.Native.Nat.{◌≤◌, ◌-◌}
+use mathlib.Core.Path.{◌≡◌, refl}
+use Rattle.short_list.proofs.write_lines.Given as goal
+
+abbrev pub invariant-loop-k : goal.invariant-loop-k
+invariant-loop-k l = (l.k ≤ strings) × (l.count ≡ length (short_of l.k)) × (l.end ≡ length (lines_of (short_of l.k))) × Front (lines_of (short_of l.k)) l.initial.out l.out
+
+abbrev pub decreases-loop-k : goal.decreases-loop-k
+decreases-loop-k l = strings - l.k
