@@ -1,4 +1,4 @@
-use Rattle.std.proofs.Common.{◌+◌, arith, rules}
+use Rattle.std.proofs.Common.{◌+◌, arith}
 use Rattle.base_values.proofs.Laws.{target_fits, distance_fits, distance_same}
 use Rattle.base_values.proofs.distance.Goals as goal
 

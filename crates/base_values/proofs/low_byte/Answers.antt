@@ -1,5 +1,4 @@
 use Rattle.base_values.proofs.Laws.{flip_fits, flip_cast, keep_cast, low_negative, low_from_zero}
-use Rattle.std.proofs.Common.{rules}
 use Rattle.base_values.proofs.low_byte.Goals as goal
 
 pub overflow_sub-n : goal.overflow_sub-n

@@ -4,7 +4,6 @@ use borrow.Author.Tests.{le-leb, lt-leb}
 use Rattle.show_file.specs.Show.{u16_at}
 use Rattle.convert_spec.specs.Converting.{is_other_version}
 use Rattle.convert_passes.proofs.Laws.{other_low}
-use borrow.Author.Rules.{rules}
 use Rattle.convert_passes.proofs.is_other_version.Goals as goal
 
 pub returns-then-file-lt-HEADER_LENGTH : goal.returns-then-file-lt-HEADER_LENGTH

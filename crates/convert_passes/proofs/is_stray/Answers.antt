@@ -1,6 +1,5 @@
 use mathlib.Core.Path.{refl, sym, ◌∙◌, ap}
 use Rattle.convert_spec.specs.Targets.{is_branch, is_stray}
-use borrow.Author.Rules.{rules}
 use Rattle.convert_passes.proofs.is_stray.Goals as goal
 
 pub returns-then-is_branch : goal.returns-then-is_branch

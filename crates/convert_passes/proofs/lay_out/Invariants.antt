@@ -1,16 +1,11 @@
-use Prim.Native.Nat.{◌≤◌, ◌*◌, ◌+◌, ◌-◌}
-use mathlib.Core.Path.{◌≡◌, refl, sym, ◌∙◌}
-use lib.ListN.{length, length-set}
-use native.Mathlib.Omega.{arith}
+use Prim.Native.Nat.{◌≤◌, ◌*◌, ◌-◌}
+use mathlib.Core.Path.{◌≡◌}
+use lib.ListN.{length}
 use Rattle.show_file.specs.Show.{first_from}
-use Rattle.show_file.proofs.Laws.{from_start, from_no}
 use Rattle.convert_spec.specs.OldStarts.{is_refused, old_start, old_offset, old_answer}
 use Rattle.convert_spec.specs.OldStarts.{gain as gainOf}
 use Rattle.convert_spec.specs.Converting.{first_refused}
 use Rattle.convert_laws.specs.Passed.{Table}
-use Rattle.convert_laws.proofs.Ranges.{gain_below}
-use Rattle.convert_passes.proofs.Laws.{table_start, table_next, lay_taken, lay_short, lay_some, lay_next, gain_next, lay_stop, lay_all, old_bytes_small, not_all}
-use borrow.Author.Rules.{rules}
 use Rattle.convert_passes.proofs.lay_out.Given as goal
 
 abbrev pub invariant-loop-k : goal.invariant-loop-k

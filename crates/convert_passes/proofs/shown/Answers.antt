@@ -1,5 +1,4 @@
 use mathlib.Core.Path.{sym, ◌∙◌}
-use borrow.Author.Rules.{rules}
 use Rattle.convert_passes.proofs.shown.Goals as goal
 
 pub returns-then-is_other_version : goal.returns-then-is_other_version

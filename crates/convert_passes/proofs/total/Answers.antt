@@ -1,7 +1,7 @@
 use Rattle.show_file.specs.Show.{insn_at}
 use Rattle.convert_spec.specs.Counts.{times}
-use Prim.Native.Nat.{◌≤◌, ◌-◌, ◌*◌}
-use mathlib.Core.Path.{◌≡◌, refl, sym, ◌∙◌, ap}
+use Prim.Native.Nat.{◌-◌}
+use mathlib.Core.Path.{◌≡◌, refl, ◌∙◌, ap}
 use native.Mathlib.Omega.{arith}
 use Rattle.convert_spec.specs.OldStarts.{first_copy}
 use Rattle.convert_laws.proofs.Ranges.{times_within}

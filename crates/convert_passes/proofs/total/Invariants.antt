@@ -1,12 +1,6 @@
-use Rattle.show_file.specs.Show.{insn_at}
-use Rattle.convert_spec.specs.Counts.{times}
 use Prim.Native.Nat.{◌≤◌, ◌-◌, ◌*◌}
-use mathlib.Core.Path.{◌≡◌, refl, sym, ◌∙◌, ap}
-use native.Mathlib.Omega.{arith}
+use mathlib.Core.Path.{◌≡◌}
 use Rattle.convert_spec.specs.OldStarts.{first_copy}
-use Rattle.convert_laws.proofs.Ranges.{times_within}
-use Rattle.convert_passes.proofs.Laws.{copies_next}
-use borrow.Author.Rules.{rules}
 use Rattle.convert_passes.proofs.total.Given as goal
 
 abbrev pub invariant-loop-k : goal.invariant-loop-k

@@ -1,6 +1,5 @@
 use Rattle.convert_record.proofs.Laws.{imm_branch}
 use Rattle.convert_laws.proofs.Branches.{branch_by_group}
-use borrow.Author.Rules.{rules}
 use Rattle.convert_record.proofs.branch_of.Goals as goal
 
 pub returns-in-Imm : goal.returns-in-Imm

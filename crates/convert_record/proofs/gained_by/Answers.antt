@@ -1,7 +1,6 @@
 use mathlib.Core.Path.{refl}
 use native.Mathlib.Nat.{mul-le-mul}
 use native.Mathlib.Omega.{arith}
-use borrow.Author.Rules.{rules}
 use Rattle.convert_laws.proofs.Ranges.{times_within, old_within, gained_little}
 use Rattle.convert_record.proofs.gained_by.Goals as goal
 

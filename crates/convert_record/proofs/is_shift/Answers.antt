@@ -1,4 +1,3 @@
-use borrow.Author.Rules.{rules}
 use borrow.Author.Tests.{le-leb, lt-leb}
 use Rattle.convert_record.proofs.Laws.{shift_number}
 use Rattle.convert_record.proofs.is_shift.Goals as goal

@@ -1,7 +1,6 @@
 use mir.Syntax.{w32}
 use mir.ValLaws.{to_z-of_z}
-use Rattle.convert_record.proofs.Laws.{sum_fits, sum_read, word_read}
-use borrow.Author.Rules.{rules}
+use Rattle.convert_record.proofs.Laws.{sum_read, word_read}
 use Rattle.convert_record.proofs.moved_by.Goals as goal
 
 pub returns-in-None : goal.returns-in-None

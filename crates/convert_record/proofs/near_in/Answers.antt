@@ -1,4 +1,3 @@
-use borrow.Author.Rules.{rules}
 use Rattle.convert_record.proofs.near_in.Goals as goal
 
 pub returns-in-Arithmetic : goal.returns-in-Arithmetic

@@ -1,9 +1,6 @@
 use mir.Syntax.{w32}
 use mir.ValLaws.{to_z-of_z}
-use lib.ListN.{length-set}
-use native.Mathlib.Omega.{arith}
 use Rattle.convert_record.proofs.Laws.{four_set}
-use borrow.Author.Rules.{rules}
 use Rattle.convert_record.proofs.put_i32.Goals as goal
 
 pub returns : goal.returns

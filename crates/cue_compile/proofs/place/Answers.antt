@@ -1,7 +1,6 @@
 use native.Mathlib.Omega.{arith}
 use Rattle.encode_spec.specs.Answer.{answer}
 use Rattle.cue_compile.proofs.Laws.{placed_length, placed_refused}
-use borrow.Author.Rules.{rules}
 use Rattle.cue_compile.proofs.place.Goals as goal
 
 pub overflow_add-result : goal.overflow_add-result

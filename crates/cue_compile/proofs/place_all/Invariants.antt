@@ -1,8 +1,6 @@
-use borrow.Author.Rules.{rules}
-use native.Mathlib.Omega.{arith}
 use Prim.Native.Nat.{◌-◌}
 use lib.ListN.{length}
-use Rattle.cue_compile.proofs.Laws.{Building, building_start, one_in, room_for_cue, building_next, room_for_halt, built_length, built}
+use Rattle.cue_compile.proofs.Laws.{Building}
 use Rattle.cue_compile.proofs.place_all.Given as goal
 
 abbrev pub invariant-loop-k : goal.invariant-loop-k

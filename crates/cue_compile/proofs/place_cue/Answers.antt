@@ -6,7 +6,6 @@ use Rattle.cue_compile.specs.Cues.{cue}
 use Rattle.cue_compile.specs.Program.{move_delay, loop_to, move_mask, output}
 use Rattle.cue_compile.proofs.Bytes.{Sound, delay_is, loop_is, mask_is, output_is}
 use Rattle.cue_compile.proofs.Laws.{laid_at, ends_at, lay_record, room_for, cue_laid}
-use borrow.Author.Rules.{rules}
 use Rattle.cue_compile.proofs.place_cue.Goals as goal
 
 pub place-a-requires : goal.place-a-requires

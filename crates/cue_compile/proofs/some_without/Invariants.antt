@@ -1,8 +1,6 @@
-use borrow.Author.Rules.{rules}
-use native.Mathlib.Omega.{arith}
 use Prim.Native.Nat.{◌-◌}
 use lib.ListN.{length}
-use Rattle.cue_compile.proofs.Laws.{Searched, searched_start, one_more, found, searched_next, none_found}
+use Rattle.cue_compile.proofs.Laws.{Searched}
 use Rattle.cue_compile.proofs.some_without.Given as goal
 
 abbrev pub invariant-loop-k : goal.invariant-loop-k

@@ -1,5 +1,5 @@
 use Prim.Native.Nat.{◌<◌}
-use mathlib.Core.Path.{◌≡◌, refl, ◌∙◌}
+use mathlib.Core.Path.{refl, ◌∙◌}
 use mir.Syntax.{w32}
 use mir.ValLaws.{to_z_pos}
 use borrow.Author.Rules.{rules}

@@ -2,7 +2,6 @@ use mathlib.Core.Path.{refl}
 use native.Mathlib.Omega.{arith}
 use lib.ListN.{length-set}
 use Rattle.desk_run.proofs.Laws.{none_added, pair_added}
-use borrow.Author.Rules.{rules}
 use Rattle.desk_run.proofs.add.Goals as goal
 
 pub bounds-log-at : goal.bounds-log-at

@@ -1,9 +1,7 @@
-use borrow.Author.Rules.{rules}
 use mathlib.Core.Path.{refl}
 use native.Mathlib.Omega.{arith}
-use Rattle.desk_step.specs.Step.{IsKnown}
 use Rattle.desk_step.proofs.Laws.{known_is, none_is}
-use Rattle.desk_run.proofs.Laws.{Going, going_start, ends, goes_on, spent}
+use Rattle.desk_run.proofs.Laws.{going_start, ends, goes_on, spent}
 use Rattle.desk_run.proofs.measure.Goals as goal
 
 pub loop-left-init : goal.loop-left-init

@@ -1,9 +1,5 @@
-use borrow.Author.Rules.{rules}
-use mathlib.Core.Path.{refl}
-use native.Mathlib.Omega.{arith}
 use Rattle.desk_step.specs.Step.{IsKnown}
-use Rattle.desk_step.proofs.Laws.{known_is, none_is}
-use Rattle.desk_run.proofs.Laws.{Going, going_start, ends, goes_on, spent}
+use Rattle.desk_run.proofs.Laws.{Going}
 use Rattle.desk_run.proofs.measure.Given as goal
 
 abbrev pub invariant-loop-left : goal.invariant-loop-left

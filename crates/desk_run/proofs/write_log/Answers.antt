@@ -1,8 +1,5 @@
-use borrow.Author.Rules.{rules}
-use native.Mathlib.Omega.{arith}
-use Rattle.desk_step.specs.Step.{IsKnown}
 use Rattle.desk_step.proofs.Laws.{known_is, none_is}
-use Rattle.desk_run.proofs.Laws.{Writing, writing_start, writing_length, last, room_left, writes_on, not_spent}
+use Rattle.desk_run.proofs.Laws.{writing_start, last, room_left, writes_on, not_spent}
 use Rattle.desk_run.proofs.write_log.Goals as goal
 
 pub loop-left-init : goal.loop-left-init

@@ -1,4 +1,4 @@
-use Rattle.std.proofs.Common.{rules, eq-eqb, ne_eqb}
+use Rattle.std.proofs.Common.{eq-eqb, ne_eqb}
 use Rattle.desk_step.proofs.Laws.{by_number}
 use Rattle.desk_step.proofs.action_of.Goals as goal
 

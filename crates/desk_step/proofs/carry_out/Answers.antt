@@ -1,4 +1,3 @@
-use Rattle.std.proofs.Common.{rules}
 use Rattle.desk_step.proofs.carry_out.Goals as goal
 
 pub returns : goal.returns

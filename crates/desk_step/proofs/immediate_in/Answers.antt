@@ -1,4 +1,3 @@
-use Rattle.std.proofs.Common.{rules}
 use Rattle.desk_step.proofs.immediate_in.Goals as goal
 
 pub returns-in-Immediate : goal.returns-in-Immediate

@@ -1,4 +1,4 @@
-use Rattle.std.proofs.Common.{sym, ◌∙◌, rules}
+use Rattle.std.proofs.Common.{sym, ◌∙◌}
 use Rattle.desk_step.proofs.jumps_of.Goals as goal
 
 pub returns-in-Is : goal.returns-in-Is

@@ -1,4 +1,3 @@
-use Rattle.std.proofs.Common.{rules}
 use Rattle.desk_step.proofs.move_of.Goals as goal
 
 pub returns-in-Byte : goal.returns-in-Byte

@@ -1,4 +1,3 @@
-use Rattle.std.proofs.Common.{rules}
 use Rattle.desk_step.proofs.near_in.Goals as goal
 
 pub returns-in-Near : goal.returns-in-Near

@@ -1,5 +1,4 @@
 use Rattle.desk_step.specs.Step.{performed}
-use Rattle.std.proofs.Common.{rules}
 use Rattle.desk_step.proofs.perform.Goals as goal
 
 pub returns-in-MoveWord : goal.returns-in-MoveWord

@@ -1,4 +1,3 @@
-use Rattle.std.proofs.Common.{rules}
 use Rattle.desk_step.proofs.register_in.Goals as goal
 
 pub returns-in-Register : goal.returns-in-Register

@@ -1,4 +1,4 @@
-use Rattle.std.proofs.Common.{◌∙◌, rules}
+use Rattle.std.proofs.Common.{◌∙◌}
 use Rattle.desk_step.proofs.Laws.{step_is}
 use Rattle.desk_step.proofs.step.Goals as goal
 

@@ -1,8 +1,5 @@
-use Rattle.desk_text.proofs.Digits.{Read, read_start, read_next, read_whole, too_low, too_high, too_large, empty}
-use borrow.Author.Rules.{rules}
-use lib.ListN.{length, get_or}
-use mathlib.Core.Path.{refl, sym, ◌∙◌}
-use native.Mathlib.Omega.{arith}
+use Rattle.desk_text.proofs.Digits.{Read}
+use lib.ListN.{length}
 use Prim.Native.Nat.{◌-◌}
 use Rattle.desk_text.proofs.budget_of.Given as goal
 

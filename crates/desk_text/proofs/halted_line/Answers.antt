@@ -2,7 +2,6 @@ use mathlib.Core.List.{[], ◌∷◌, ◌++◌}
 use Rattle.text_line.specs.Numbers.{blank, line_feed, long_decimal}
 use Rattle.text_line.specs.Steps.{empty_line}
 use Rattle.text_line.proofs.Laws.{then}
-use borrow.Author.Rules.{rules}
 use Rattle.desk_text.proofs.halted_line.Goals as goal
 
 pub returns : goal.returns

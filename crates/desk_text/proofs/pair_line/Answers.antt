@@ -2,7 +2,6 @@ use mathlib.Core.List.{[], ◌∷◌, ◌++◌}
 use Rattle.text_line.specs.Numbers.{blank, line_feed, hex_byte}
 use Rattle.text_line.specs.Steps.{empty_line}
 use Rattle.text_line.proofs.Laws.{then, byte}
-use borrow.Author.Rules.{rules}
 use Rattle.desk_text.proofs.pair_line.Goals as goal
 
 pub returns : goal.returns

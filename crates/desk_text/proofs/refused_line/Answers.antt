@@ -3,7 +3,6 @@ use Rattle.desk_run.specs.Running.{number_of}
 use Rattle.text_line.specs.Numbers.{blank, line_feed, decimal}
 use Rattle.text_line.specs.Steps.{empty_line}
 use Rattle.text_line.proofs.Laws.{then}
-use borrow.Author.Rules.{rules}
 use Rattle.desk_text.proofs.refused_line.Goals as goal
 
 pub returns : goal.returns

@@ -1,13 +1,8 @@
-use Rattle.base_values.proofs.Fronts.{Front, front_start, front_next, lent_length}
-use Rattle.desk_text.proofs.Laws.{pairs_next, pairs_odd, pair_length, pairs_short, pair_holds}
+use Rattle.base_values.proofs.Fronts.{Front}
 use Rattle.desk_text.specs.Lines.{pairs_text}
-use borrow.Author.Rules.{rules}
-use lib.ListN.{length, take, get_or, length-append}
-use mathlib.Core.Logic.{⊎_elim}
-use mathlib.Core.Path.{◌≡◌, refl, sym, ◌∙◌}
-use native.Mathlib.Nat.{eq-or-lt_of_le}
-use native.Mathlib.Omega.{arith}
-use Prim.Native.Nat.{◌≤◌, ◌-◌, ◌%◌, ◌+◌}
+use lib.ListN.{length, take}
+use mathlib.Core.Path.{◌≡◌}
+use Prim.Native.Nat.{◌≤◌, ◌-◌, ◌%◌}
 use Rattle.desk_text.proofs.write_pairs.Given as goal
 
 abbrev pub invariant-loop-i : goal.invariant-loop-i

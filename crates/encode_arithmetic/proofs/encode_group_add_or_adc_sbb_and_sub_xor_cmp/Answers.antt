@@ -1,7 +1,6 @@
 use mir.Syntax.{w32}
 use mir.ValLaws.{to_z-of_z}
 use mathlib.Core.Path.{sym, ◌∙◌}
-use borrow.Author.Rules.{rules}
 use Rattle.encode_arithmetic.proofs.encode_group_add_or_adc_sbb_and_sub_xor_cmp.Goals as goal
 
 pub returns-in-Is : goal.returns-in-Is

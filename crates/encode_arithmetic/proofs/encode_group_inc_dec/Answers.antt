@@ -1,5 +1,4 @@
 use mathlib.Core.Path.{sym, ◌∙◌}
-use borrow.Author.Rules.{rules}
 use Rattle.encode_arithmetic.proofs.encode_group_inc_dec.Goals as goal
 
 pub returns-in-None : goal.returns-in-None

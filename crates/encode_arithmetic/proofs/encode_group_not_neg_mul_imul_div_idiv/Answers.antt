@@ -1,5 +1,4 @@
 use mathlib.Core.Path.{sym, ◌∙◌}
-use borrow.Author.Rules.{rules}
 use Rattle.encode_arithmetic.proofs.encode_group_not_neg_mul_imul_div_idiv.Goals as goal
 
 pub returns-in-None : goal.returns-in-None

@@ -1,7 +1,6 @@
 use mir.Syntax.{w32}
 use mir.ValLaws.{to_z-of_z}
 use mathlib.Core.Path.{sym, ◌∙◌}
-use borrow.Author.Rules.{rules}
 use Rattle.encode_arithmetic.proofs.encode_group_rol_ror_rcl_rcr_shl_sal_shr_sar.Goals as goal
 
 pub returns-in-None : goal.returns-in-None

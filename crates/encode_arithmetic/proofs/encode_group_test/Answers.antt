@@ -1,5 +1,4 @@
 use mathlib.Core.Path.{sym, ◌∙◌}
-use borrow.Author.Rules.{rules}
 use Rattle.encode_arithmetic.proofs.encode_group_test.Goals as goal
 
 pub returns-in-Is : goal.returns-in-Is

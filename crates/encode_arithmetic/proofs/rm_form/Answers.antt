@@ -1,4 +1,3 @@
-use borrow.Author.Rules.{rules}
 use Rattle.encode_arithmetic.proofs.rm_form.Goals as goal
 
 pub returns-in-Imm : goal.returns-in-Imm

@@ -1,7 +1,7 @@
-use Rattle.std.proofs.Common.{◌≡◌, ◌+◌, arith, sym, ◌∙◌, subst, Bool, false}
+use Rattle.std.proofs.Common.{◌≡◌, arith, sym, ◌∙◌, subst, Bool, false}
 use mathlib.Core.Bool.{not}
 use lib.Dec.{T}
-use Rattle.encode_codes.proofs.Laws.{first_codes, four_fields, one_more}
+use Rattle.encode_codes.proofs.Laws.{four_fields, one_more}
 use Rattle.encode_fields.specs.Fields.{is_refused}
 use Rattle.encode_codes.proofs.emit_codes.Goals as goal
 

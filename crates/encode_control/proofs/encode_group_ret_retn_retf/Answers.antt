@@ -1,5 +1,4 @@
 use mathlib.Core.Path.{sym, ◌∙◌}
-use borrow.Author.Rules.{rules}
 use Rattle.encode_control.proofs.encode_group_ret_retn_retf.Goals as goal
 
 pub returns-then-is_zero : goal.returns-then-is_zero

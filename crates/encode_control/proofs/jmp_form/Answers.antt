@@ -1,4 +1,3 @@
-use borrow.Author.Rules.{rules}
 use Rattle.encode_control.proofs.jmp_form.Goals as goal
 
 pub returns-in-Reg : goal.returns-in-Reg

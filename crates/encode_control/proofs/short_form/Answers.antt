@@ -1,4 +1,3 @@
-use borrow.Author.Rules.{rules}
 use Rattle.encode_control.proofs.short_form.Goals as goal
 
 pub returns-in-None : goal.returns-in-None

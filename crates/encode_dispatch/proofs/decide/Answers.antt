@@ -1,4 +1,3 @@
-use borrow.Author.Rules.{rules}
 use Rattle.encode_dispatch.proofs.decide.Goals as goal
 
 pub returns-in-Arithmetic : goal.returns-in-Arithmetic

@@ -1,5 +1,4 @@
 use mathlib.Core.Path.{◌∙◌}
-use borrow.Author.Rules.{rules}
 use Rattle.encode_dispatch.proofs.Laws.{planned_of}
 use Rattle.encode_dispatch.proofs.plan_of.Goals as goal
 

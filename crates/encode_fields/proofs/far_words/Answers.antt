@@ -4,7 +4,6 @@ use lib.IntN.{pos}
 use Rattle.encode_spec.specs.Layout.{word_of}
 use Rattle.encode_fields.specs.Fields.{immediate_word}
 use Rattle.encode_fields.proofs.Laws.{in_limits, out_of_limits}
-use borrow.Author.Rules.{rules}
 use Rattle.encode_fields.proofs.far_words.Goals as goal
 
 pub returns-then-value_is_within-2 : goal.returns-then-value_is_within-2

@@ -1,6 +1,5 @@
 use mir.Syntax.{w32}
 use mir.ValLaws.{to_z-of_z}
-use borrow.Author.Rules.{rules}
 use Rattle.encode_fields.proofs.fields_of.Goals as goal
 
 pub returns-in-Byte : goal.returns-in-Byte

@@ -1,4 +1,3 @@
-use borrow.Author.Rules.{rules}
 use Rattle.encode_fields.proofs.is_refused.Goals as goal
 
 pub returns-in-None : goal.returns-in-None

@@ -1,5 +1,4 @@
 use Rattle.encode_fields.specs.Fields.{mod_reg_rm}
-use borrow.Author.Rules.{rules}
 use Rattle.encode_fields.proofs.mod_reg_rm.Goals as goal
 
 pub returns : goal.returns

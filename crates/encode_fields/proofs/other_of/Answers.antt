@@ -1,5 +1,4 @@
 use borrow.Author.Tests.{eq-eqb, ne_eqb}
-use borrow.Author.Rules.{rules}
 use Rattle.encode_fields.proofs.other_of.Goals as goal
 
 pub returns-then-k-eq0 : goal.returns-then-k-eq0

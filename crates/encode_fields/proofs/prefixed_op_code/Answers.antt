@@ -1,4 +1,3 @@
-use borrow.Author.Rules.{rules}
 use Rattle.encode_fields.proofs.prefixed_op_code.Goals as goal
 
 pub returns : goal.returns

@@ -4,7 +4,6 @@ use Rattle.base_values.specs.Distances.{distance_of}
 use Rattle.encode_spec.specs.Layout.{word_of}
 use Rattle.encode_fields.specs.Fields.{relative_word}
 use Rattle.encode_fields.proofs.Laws.{in_limits, out_of_limits}
-use borrow.Author.Rules.{rules}
 use Rattle.encode_fields.proofs.relative_word.Goals as goal
 
 pub returns-then-value_is_within : goal.returns-then-value_is_within

@@ -1,4 +1,3 @@
-use borrow.Author.Rules.{rules}
 use Rattle.encode_form.proofs.digit_of.Goals as goal
 
 pub returns-then-has_digit : goal.returns-then-has_digit

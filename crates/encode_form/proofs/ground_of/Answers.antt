@@ -1,6 +1,5 @@
 use Rattle.encode_form.proofs.Found.{form_of_run, question_of_refusal}
 use Rattle.encoder.proofs.Laws.{is_refused, is_bytes}
-use borrow.Author.Rules.{rules}
 use Rattle.encode_form.proofs.ground_of.Goals as goal
 
 pub returns-in-Because : goal.returns-in-Because

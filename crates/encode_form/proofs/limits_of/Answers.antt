@@ -1,5 +1,4 @@
 use Rattle.reader.proofs.Laws.{tests}
-use borrow.Author.Rules.{rules}
 use Rattle.encode_form.proofs.limits_of.Goals as goal
 
 pub returns-then-opcode-eq2 : goal.returns-then-opcode-eq2

@@ -1,4 +1,3 @@
-use borrow.Author.Rules.{rules}
 use Rattle.encode_form.proofs.operands_of.Goals as goal
 
 pub returns-in-Arithmetic : goal.returns-in-Arithmetic

@@ -1,4 +1,3 @@
-use borrow.Author.Rules.{rules}
 use Rattle.encode_form.proofs.question_of.Goals as goal
 
 pub returns-in-Unspecified : goal.returns-in-Unspecified

@@ -1,5 +1,4 @@
 use native.Mathlib.Numerals.{add-one}
-use borrow.Author.Rules.{rules}
 use Rattle.encode_form.proofs.written_in.Goals as goal
 
 pub returns : goal.returns

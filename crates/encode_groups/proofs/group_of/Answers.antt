@@ -1,4 +1,3 @@
-use borrow.Author.Rules.{rules}
 use Rattle.encode_groups.specs.Grouping.{grouped_of}
 use Rattle.encode_groups.proofs.group_of.Goals as goal
 

@@ -1,4 +1,4 @@
-use Rattle.std.proofs.Common.{◌∙◌, rules}
+use Rattle.std.proofs.Common.{◌∙◌}
 use Rattle.encode_lines.proofs.line_plan.Goals as goal
 
 pub returns-in-ArithRmReg : goal.returns-in-ArithRmReg

@@ -1,4 +1,4 @@
-use Rattle.std.proofs.Common.{◌∙◌, rules}
+use Rattle.std.proofs.Common.{◌∙◌}
 use Rattle.encode_lines.proofs.plan_for.Goals as goal
 
 pub returns : goal.returns

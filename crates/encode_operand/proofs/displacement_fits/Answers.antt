@@ -1,4 +1,3 @@
-use borrow.Author.Rules.{rules}
 use Rattle.encode_operand.proofs.displacement_fits.Goals as goal
 
 pub returns : goal.returns

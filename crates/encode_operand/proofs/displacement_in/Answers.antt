@@ -1,6 +1,5 @@
 use mir.Syntax.{w32}
 use mir.ValLaws.{to_z-of_z}
-use borrow.Author.Rules.{rules}
 use Rattle.encode_operand.proofs.displacement_in.Goals as goal
 
 pub returns-in-Unspecified : goal.returns-in-Unspecified

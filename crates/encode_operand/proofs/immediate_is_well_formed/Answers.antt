@@ -2,7 +2,6 @@ use borrow.Author.Tests.{eq-eqb, ne_eqb}
 use Rattle.encode_operand.proofs.Laws.{both_yes}
 use Rattle.mrc_compiler.specs.Choose.{by_size}
 use mathlib.Core.Bool.{true, false}
-use borrow.Author.Rules.{rules}
 use Rattle.encode_operand.proofs.immediate_is_well_formed.Goals as goal
 
 pub returns-then-oper-ne0 : goal.returns-then-oper-ne0

@@ -1,4 +1,3 @@
-use borrow.Author.Rules.{rules}
 use borrow.Author.Tests.{le-leb, lt-leb}
 use Rattle.encode_operand.proofs.Laws.{string_number}
 use Rattle.encode_operand.proofs.is_string.Goals as goal

@@ -1,5 +1,4 @@
 use Rattle.encode_spec.specs.WellFormed.{well_formed}
-use borrow.Author.Rules.{rules}
 use Rattle.encode_operand.proofs.is_well_formed.Goals as goal
 
 pub returns-in-Imm : goal.returns-in-Imm

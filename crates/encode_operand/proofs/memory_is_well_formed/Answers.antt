@@ -2,7 +2,6 @@ use mathlib.Core.Path.{sym, ◌∙◌}
 use borrow.Author.Tests.{lt-ltb, le-ltb}
 use Rattle.encode_operand.proofs.Laws.{both_yes}
 use Rattle.encode_spec.specs.WellFormed.{displacement_in}
-use borrow.Author.Rules.{rules}
 use Rattle.encode_operand.proofs.memory_is_well_formed.Goals as goal
 
 pub returns-then-mode-ge3 : goal.returns-then-mode-ge3

@@ -1,4 +1,3 @@
-use borrow.Author.Rules.{rules}
 use Rattle.encode_plans.proofs.common_operand_size.Goals as goal
 
 pub returns-in-Byte-src : goal.returns-in-Byte-src

@@ -1,5 +1,4 @@
 use borrow.Author.Tests.{eq-eqb, ne_eqb}
-use borrow.Author.Rules.{rules}
 use Rattle.encode_plans.proofs.is_acc_direct.Goals as goal
 
 pub returns-then-acc-ne0 : goal.returns-then-acc-ne0

@@ -1,4 +1,3 @@
-use borrow.Author.Rules.{rules}
 use Rattle.encode_plans.proofs.is_cl.Goals as goal
 
 -- look: -- src/lib.rt:85:37

@@ -1,4 +1,3 @@
-use borrow.Author.Rules.{rules}
 use Rattle.encode_plans.proofs.is_dx.Goals as goal
 
 -- look: -- src/lib.rt:95:37

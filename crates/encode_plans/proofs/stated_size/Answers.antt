@@ -1,4 +1,3 @@
-use borrow.Author.Rules.{rules}
 use Rattle.encode_plans.proofs.stated_size.Goals as goal
 
 pub returns-in-Byte : goal.returns-in-Byte

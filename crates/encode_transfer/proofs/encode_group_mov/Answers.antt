@@ -1,5 +1,4 @@
 use mathlib.Core.Path.{sym, ◌∙◌}
-use borrow.Author.Rules.{rules}
 use Rattle.encode_transfer.proofs.encode_group_mov.Goals as goal
 
 pub returns-in-Is : goal.returns-in-Is

@@ -1,5 +1,4 @@
 use mathlib.Core.Path.{◌∙◌}
-use borrow.Author.Rules.{rules}
 use Rattle.encode_transfer.proofs.encode_group_xlat.Goals as goal
 
 pub returns : goal.returns

@@ -1,4 +1,3 @@
-use borrow.Author.Rules.{rules}
 use Rattle.encode_transfer.proofs.is_ax.Goals as goal
 
 pub returns-in-Word : goal.returns-in-Word

@@ -1,4 +1,3 @@
-use borrow.Author.Rules.{rules}
 use Rattle.encode_transfer.proofs.mov_form.Goals as goal
 
 pub returns-in-Seg-src : goal.returns-in-Seg-src

@@ -1,5 +1,4 @@
 use mathlib.Core.Path.{sym, ◌∙◌}
-use borrow.Author.Rules.{rules}
 use Rattle.encode_transfer.proofs.port_decision.Goals as goal
 
 pub returns-in-None : goal.returns-in-None

@@ -1,4 +1,3 @@
-use borrow.Author.Rules.{rules}
 use Rattle.encoder.proofs.Laws.{len_ok, is_refused, out_ok}
 use Rattle.encoder.proofs.encode.Goals as goal
 

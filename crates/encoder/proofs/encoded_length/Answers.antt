@@ -1,4 +1,3 @@
-use borrow.Author.Rules.{rules}
 use Rattle.encoder.proofs.Laws.{is_refused, length_ok}
 use Rattle.encoder.proofs.encoded_length.Goals as goal
 

@@ -1,8 +1,6 @@
 use Prim.Native.Nat.{◌-◌}
 use mathlib.Core.Path.{sym, ◌∙◌}
-use native.Mathlib.Omega.{arith}
-use Rattle.encoder.proofs.Laws.{Before, none, one_more, first_ill, none_ill}
-use borrow.Author.Rules.{rules}
+use Rattle.encoder.proofs.Laws.{none, one_more, first_ill, none_ill}
 use Rattle.encoder.proofs.first_ill_formed.Goals as goal
 
 pub loop-i-init : goal.loop-i-init

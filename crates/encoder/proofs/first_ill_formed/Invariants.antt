@@ -1,8 +1,5 @@
 use Prim.Native.Nat.{◌-◌}
-use mathlib.Core.Path.{sym, ◌∙◌}
-use native.Mathlib.Omega.{arith}
-use Rattle.encoder.proofs.Laws.{Before, none, one_more, first_ill, none_ill}
-use borrow.Author.Rules.{rules}
+use Rattle.encoder.proofs.Laws.{Before}
 use Rattle.encoder.proofs.first_ill_formed.Given as goal
 
 abbrev pub invariant-loop-i : goal.invariant-loop-i

@@ -1,7 +1,6 @@
 use mathlib.Core.Path.{sym, ◌∙◌}
 use Rattle.encode_spec.specs.Records.{dst, src}
 use Rattle.encode_spec.specs.WellFormed.{well_formed}
-use borrow.Author.Rules.{rules}
 use borrow.Author.Tests.{le-leb, lt-leb}
 use Rattle.encoder.proofs.Laws.{first_yes, first_no, second_yes, second_no, count_refused, first_refused, second_refused, repeat_refused, run_planned}
 use Rattle.encoder.proofs.run_of.Goals as goal

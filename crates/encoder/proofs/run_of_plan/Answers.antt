@@ -1,4 +1,3 @@
-use borrow.Author.Rules.{rules}
 use Rattle.encoder.proofs.run_of_plan.Goals as goal
 
 pub returns-in-Emit : goal.returns-in-Emit

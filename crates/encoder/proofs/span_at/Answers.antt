@@ -1,4 +1,3 @@
-use borrow.Author.Rules.{rules}
 use Rattle.encoder.proofs.span_at.Goals as goal
 
 pub returns-in-Operands : goal.returns-in-Operands

@@ -1,12 +1,7 @@
-use mathlib.Core.Path.{◌≡◌, sym}
+use mathlib.Core.Path.{◌≡◌}
 use mathlib.Core.List.{◌++◌}
 use Prim.Native.Nat.{◌≤◌, ◌-◌}
-use native.Mathlib.Omega.{arith}
-use lib.ListN.{length, take, drop, length-set}
-use native.Mathlib.Numerals.{add-one}
-use borrow.Author.Rules.{rules}
-use borrow.Author.Tests.{le-leb, lt-leb}
-use Rattle.base_values.proofs.Copies.{copied_more}
+use lib.ListN.{length, take, drop}
 use Rattle.encoder.proofs.write_run.Given as goal
 
 abbrev pub invariant-loop-i : goal.invariant-loop-i

@@ -1,9 +1,6 @@
-use mathlib.Core.Path.{◌≡◌, refl, sym, ◌∙◌, ap}
+use mathlib.Core.Path.{◌≡◌, sym, ◌∙◌}
 use native.Mathlib.Omega.{arith}
 use Prim.Native.Nat.{◌+◌, ◌%◌}
-use borrow.Author.Tests.{ne_eqb, eq-eqb}
-use Rattle.fast_forms.proofs.Laws.{first_operand, second_operand}
-use borrow.Author.Rules.{rules}
 use Rattle.fast_encoder.proofs.arithmetic_imm.Goals as goal
 
 pub returns-then-in_range : goal.returns-then-in_range

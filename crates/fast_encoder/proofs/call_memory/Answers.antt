@@ -1,6 +1,5 @@
 use native.Mathlib.Omega.{arith}
 use Rattle.fast_encoder.proofs.Laws.{through_is, not_byte}
-use borrow.Author.Rules.{rules}
 use Rattle.fast_encoder.proofs.call_memory.Goals as goal
 
 pub returns-then-rec-eq1-2 : goal.returns-then-rec-eq1-2

@@ -9,7 +9,6 @@ use Rattle.fast_forms.proofs.Laws.{first_operand, second_operand, one}
 use Rattle.fast_encoder.specs.Packing.{decided_at}
 use Rattle.fast_encoder.proofs.Laws.{keyed, through_is, stated_second, base_zero, four, sixteen, one_left, inc_code, short_jump, common_at, size_small, stated_at, bit_small, arithmetic_code}
 use Rattle.encode_spec.specs.Answer.{bytes}
-use borrow.Author.Rules.{rules}
 use Rattle.fast_encoder.proofs.dispatch.Goals as goal
 
 pub arithmetic_imm-requires : goal.arithmetic_imm-requires

@@ -1,7 +1,6 @@
 use mathlib.Core.Path.{sym, ◌∙◌}
 use native.Mathlib.Omega.{arith}
 use Rattle.fast_encoder.proofs.Laws.{near_jump}
-use borrow.Author.Rules.{rules}
 use Rattle.fast_encoder.proofs.jmp_imm.Goals as goal
 
 pub returns-then-rec-eq1 : goal.returns-then-rec-eq1

@@ -2,7 +2,6 @@ use mathlib.Core.Path.{◌≡◌, refl}
 use native.Mathlib.Omega.{arith}
 use Prim.Native.Nat.{◌+◌}
 use Rattle.fast_forms.proofs.Laws.{first_operand, second_operand}
-use borrow.Author.Rules.{rules}
 use Rattle.fast_encoder.proofs.load_run.Goals as goal
 
 pub returns-then-rec-ne2 : goal.returns-then-rec-ne2

@@ -1,9 +1,6 @@
-use mathlib.Core.Path.{◌≡◌, refl, sym, ◌∙◌, ap}
+use mathlib.Core.Path.{refl, sym, ◌∙◌}
 use native.Mathlib.Omega.{arith}
-use Prim.Native.Nat.{◌+◌, ◌%◌}
-use borrow.Author.Tests.{ne_eqb, eq-eqb}
 use Rattle.fast_forms.proofs.Laws.{first_operand, second_operand}
-use borrow.Author.Rules.{rules}
 use Rattle.fast_encoder.proofs.mov_from.Goals as goal
 
 pub moffs_run-requires : goal.moffs_run-requires

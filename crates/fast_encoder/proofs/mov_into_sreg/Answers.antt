@@ -1,9 +1,7 @@
-use mathlib.Core.Path.{◌≡◌, refl, sym, ◌∙◌, ap}
+use mathlib.Core.Path.{refl}
 use native.Mathlib.Omega.{arith}
-use Prim.Native.Nat.{◌+◌, ◌%◌}
-use borrow.Author.Tests.{ne_eqb, eq-eqb}
+use borrow.Author.Tests.{ne_eqb}
 use Rattle.fast_forms.proofs.Laws.{first_operand, second_operand}
-use borrow.Author.Rules.{rules}
 use Rattle.fast_encoder.proofs.mov_into_sreg.Goals as goal
 
 pub returns-then-size-ne2 : goal.returns-then-size-ne2

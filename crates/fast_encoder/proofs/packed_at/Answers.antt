@@ -1,7 +1,5 @@
-use mathlib.Core.Logic.{⊎_elim}
 use native.Mathlib.Omega.{arith}
 use Rattle.fast_encoder.proofs.Laws.{ready, plain_packed, repeat_packed}
-use borrow.Author.Rules.{rules}
 use Rattle.std.proofs.Common.{◌≡◌, ◌<◌}
 use Rattle.show_record.specs.Record.{byte_at}
 use Rattle.fast_encoder.proofs.packed_at.Goals as goal

@@ -1,6 +1,5 @@
 use native.Mathlib.Omega.{arith}
 use borrow.Author.Tests.{ne_eqb}
-use borrow.Author.Rules.{rules}
 use Rattle.fast_encoder.proofs.pop_sreg.Goals as goal
 
 pub returns-then-rec-ne2 : goal.returns-then-rec-ne2

@@ -2,7 +2,6 @@ use native.Mathlib.Omega.{arith}
 use Prim.Native.Nat.{◌+◌, ◌<◌}
 use Rattle.show_record.specs.Record.{byte_at}
 use Rattle.fast_forms.proofs.Laws.{bit_is}
-use borrow.Author.Rules.{rules}
 use Rattle.fast_encoder.proofs.port_dx.Goals as goal
 
 pub returns-then-size-eq0 : goal.returns-then-size-eq0

@@ -1,7 +1,6 @@
 use native.Mathlib.Omega.{arith}
 use Rattle.fast_forms.proofs.Laws.{one}
 use Rattle.fast_encoder.proofs.Laws.{repeated}
-use borrow.Author.Rules.{rules}
 use Rattle.fast_encoder.proofs.repeat_run.Goals as goal
 
 pub returns-then-row-lt77988 : goal.returns-then-row-lt77988

@@ -1,7 +1,6 @@
 use mathlib.Core.Path.{sym, ap}
 use borrow.Author.Tests.{ne_eqb}
 use Rattle.encode_spec.specs.Answer.{bytes}
-use borrow.Author.Rules.{rules}
 use Rattle.fast_encoder.proofs.ret.Goals as goal
 
 pub returns-then-count-eq0 : goal.returns-then-count-eq0

@@ -1,5 +1,4 @@
 use native.Mathlib.Omega.{arith}
-use borrow.Author.Rules.{rules}
 use Rattle.fast_encoder.proofs.shift_cl.Goals as goal
 
 pub returns-then-rec-ne1 : goal.returns-then-rec-ne1

@@ -1,6 +1,5 @@
 use mathlib.Core.Path.{sym, ◌∙◌}
 use native.Mathlib.Omega.{arith}
-use borrow.Author.Rules.{rules}
 use Rattle.fast_encoder.proofs.shift_one.Goals as goal
 
 pub returns-then-u32_at-ne1 : goal.returns-then-u32_at-ne1

@@ -1,5 +1,4 @@
 use borrow.Author.Tests.{ne_eqb}
-use borrow.Author.Rules.{rules}
 use Rattle.fast_encoder.proofs.test_imm.Goals as goal
 
 pub returns-then-rec-eq0 : goal.returns-then-rec-eq0

@@ -1,6 +1,5 @@
 use native.Mathlib.Omega.{arith}
 use Rattle.fast_encoder.proofs.Laws.{not_byte}
-use borrow.Author.Rules.{rules}
 use Rattle.fast_encoder.proofs.through.Goals as goal
 
 pub returns-then-rec-eq1 : goal.returns-then-rec-eq1

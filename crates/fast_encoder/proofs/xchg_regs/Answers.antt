@@ -2,7 +2,6 @@ use mathlib.Core.Path.{◌≡◌, refl}
 use native.Mathlib.Omega.{arith}
 use borrow.Author.Tests.{ne_eqb}
 use Rattle.fast_forms.proofs.Laws.{first_operand, second_operand}
-use borrow.Author.Rules.{rules}
 use Rattle.fast_encoder.proofs.xchg_regs.Goals as goal
 
 pub returns-then-rec-eq0 : goal.returns-then-rec-eq0

@@ -1,6 +1,4 @@
-use Rattle.std.proofs.Common.{◌≡◌, sym, refl, ap, ◌∙◌, arith, rules}
-use Rattle.fast_run.specs.Packed.{digits, unpacked}
-use Rattle.fast_run.proofs.Laws.{ne_positive}
+use Rattle.std.proofs.Common.{sym, ◌∙◌, arith}
 use Rattle.fast_forms.proofs.Laws.{far}
 use Rattle.fast_forms.proofs.far_run.Goals as goal
 

@@ -1,8 +1,7 @@
 use Rattle.mrc_compiler.specs.declared.encoder.generate.Code.TheVariants as C
-use Rattle.std.proofs.Common.{◌≡◌, ◌+◌, ◌*◌, sym, refl, ap, ◌∙◌, arith, rules}
-use Rattle.fast_run.specs.Packed.{digits, unpacked}
+use Rattle.std.proofs.Common.{◌+◌, ◌*◌, sym, ◌∙◌, arith}
 use Rattle.fast_run.proofs.Laws.{ne_positive}
-use Rattle.fast_forms.proofs.Laws.{memory_then, disp_word, two, bit_is}
+use Rattle.fast_forms.proofs.Laws.{memory_then, disp_word, bit_is}
 use Rattle.fast_forms.proofs.moffs_run.Goals as goal
 
 pub returns-then-size-eq0 : goal.returns-then-size-eq0

@@ -1,5 +1,4 @@
-use Rattle.std.proofs.Common.{◌≡◌, sym, refl, ap, ◌∙◌, arith, rules}
-use Rattle.fast_run.specs.Packed.{digits, unpacked}
+use Rattle.std.proofs.Common.{arith}
 use Rattle.fast_run.proofs.Laws.{ne_positive}
 use Rattle.fast_forms.proofs.Laws.{alone, bit_is, none, first_operand}
 use Rattle.fast_forms.proofs.rm_alone.Goals as goal

@@ -1,6 +1,5 @@
-use Rattle.std.proofs.Common.{◌≡◌, sym, refl, ap, ◌∙◌, arith, rules}
-use Rattle.fast_run.specs.Packed.{digits, unpacked}
-use Rattle.fast_run.proofs.Laws.{ne_positive}
+use Rattle.std.proofs.Common.{◌∙◌}
+use Rattle.fast_run.specs.Packed.{digits}
 use Rattle.fast_forms.proofs.Laws.{rm_before}
 use Rattle.fast_forms.proofs.rm_form.Goals as goal
 

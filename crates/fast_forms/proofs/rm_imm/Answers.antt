@@ -1,7 +1,6 @@
 use Rattle.encode_lines.specs.Lines.{immediate}
 use Rattle.fast_rows.specs.Rows.{data_of}
-use Rattle.std.proofs.Common.{◌≡◌, sym, refl, ap, ◌∙◌, arith, rules}
-use Rattle.fast_run.specs.Packed.{digits, unpacked}
+use Rattle.std.proofs.Common.{arith}
 use Rattle.fast_run.proofs.Laws.{ne_positive}
 use Rattle.fast_forms.proofs.Laws.{rm_then, bit_is, first_operand}
 use Rattle.fast_forms.proofs.rm_imm.Goals as goal

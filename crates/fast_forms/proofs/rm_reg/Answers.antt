@@ -1,7 +1,6 @@
-use Rattle.std.proofs.Common.{◌≡◌, sym, refl, ap, ◌∙◌, arith, rules}
-use Rattle.fast_run.specs.Packed.{digits, unpacked}
+use Rattle.std.proofs.Common.{arith}
 use Rattle.fast_run.proofs.Laws.{ne_positive}
-use Rattle.fast_forms.proofs.Laws.{in_reg, bit_is, none}
+use Rattle.fast_forms.proofs.Laws.{in_reg, bit_is}
 use Rattle.fast_forms.proofs.rm_reg.Goals as goal
 
 pub returns-then-size-eq0 : goal.returns-then-size-eq0

@@ -1,7 +1,4 @@
 use Rattle.mrc_compiler.specs.declared.encoder.generate.Code.TheVariants as C
-use Rattle.std.proofs.Common.{◌≡◌, sym, refl, ap, ◌∙◌, arith, rules}
-use Rattle.fast_run.specs.Packed.{digits, unpacked}
-use Rattle.fast_run.proofs.Laws.{ne_positive}
 use Rattle.fast_forms.proofs.Laws.{rm_then, sign_extended, one, first_operand}
 use Rattle.fast_forms.proofs.rm_sign_extended.Goals as goal
 

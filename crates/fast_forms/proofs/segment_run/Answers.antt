@@ -1,6 +1,4 @@
-use Rattle.std.proofs.Common.{◌≡◌, sym, refl, ap, ◌∙◌, arith, rules}
-use Rattle.fast_run.specs.Packed.{digits, unpacked}
-use Rattle.fast_run.proofs.Laws.{ne_positive}
+use Rattle.std.proofs.Common.{arith}
 use Rattle.fast_forms.proofs.Laws.{in_segment}
 use Rattle.fast_forms.proofs.segment_run.Goals as goal
 

@@ -1,7 +1,5 @@
 use Rattle.mrc_compiler.specs.declared.encoder.generate.Code.TheVariants as C
-use Rattle.std.proofs.Common.{◌≡◌, ◌%◌, sym, refl, ap, ◌∙◌, arith, rules}
-use Rattle.fast_run.specs.Packed.{digits, unpacked}
-use Rattle.fast_run.proofs.Laws.{ne_positive}
+use Rattle.std.proofs.Common.{◌%◌, sym, refl, ◌∙◌, arith, rules}
 use Rattle.fast_forms.proofs.Laws.{byte_then, rel_byte}
 use Rattle.fast_forms.proofs.short_run.Goals as goal
 

@@ -1,8 +1,5 @@
 use Prim.Native.Nat.{◌-◌}
-use native.Mathlib.Omega.{arith}
-use Rattle.fast_run.proofs.Laws.{not_true}
-use Rattle.fast_operand.proofs.Laws.{Before, none, one_more, is_inside, both_formed}
-use borrow.Author.Rules.{rules}
+use Rattle.fast_operand.proofs.Laws.{Before}
 use Rattle.fast_operand.proofs.are_formed.Given as goal
 
 abbrev pub invariant-loop-at : goal.invariant-loop-at

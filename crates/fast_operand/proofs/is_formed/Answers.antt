@@ -1,9 +1,7 @@
 use mathlib.Core.Path.{sym, ◌∙◌}
-use native.Mathlib.Omega.{arith}
 use borrow.Author.Tests.{eqb-true, ltb-true}
 use Rattle.fast_run.proofs.Laws.{not_true}
 use Rattle.fast_operand.proofs.Laws.{immediate, register, segment, memory}
-use borrow.Author.Rules.{rules}
 use Rattle.fast_operand.proofs.is_formed.Goals as goal
 
 pub returns-then-rec-at-ge3 : goal.returns-then-rec-at-ge3

@@ -1,6 +1,5 @@
-use mathlib.Core.Path.{◌≡◌, refl}
+use mathlib.Core.Path.{◌≡◌}
 use native.Mathlib.Omega.{arith}
-use borrow.Author.Rules.{rules}
 use Rattle.fast_operand.proofs.is_in_size.Goals as goal
 
 pub returns-then-size-eq0 : goal.returns-then-size-eq0

@@ -1,11 +1,8 @@
 use Prim.Native.Nat.{◌+◌}
 use lib.ListN.{get_or}
 use mathlib.Core.Path.{sym, ◌∙◌}
-use native.Mathlib.Omega.{arith}
 use Rattle.fast_run.proofs.Laws.{not_true}
-use Rattle.x86.specs.Reading.{displacement_length}
 use Rattle.fast_operand.proofs.Laws.{displacement_short}
-use borrow.Author.Rules.{rules}
 use Rattle.fast_operand.proofs.is_memory_formed.Goals as goal
 
 pub returns-then-mode-ge3 : goal.returns-then-mode-ge3

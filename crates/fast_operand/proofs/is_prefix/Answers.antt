@@ -1,8 +1,5 @@
 use mathlib.Core.Path.{refl}
-use native.Mathlib.Omega.{arith}
-use Rattle.encode_spec.specs.WellFormed.{is_prefix}
-use Rattle.x86.specs.Reading.{prefix}
-use borrow.Author.Tests.{eqb-true, eq-eqb}
+use borrow.Author.Tests.{eqb-true}
 use Rattle.fast_run.proofs.Laws.{not_true}
 use Rattle.fast_operand.proofs.Laws.{prefix_eighth}
 use Rattle.fast_operand.proofs.is_prefix.Goals as goal

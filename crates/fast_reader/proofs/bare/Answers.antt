@@ -1,6 +1,5 @@
 use native.Mathlib.Omega.{arith}
 use Rattle.fast_reader.proofs.Plain.{front_first, front_second}
-use borrow.Author.Rules.{rules}
 use Rattle.fast_reader.proofs.bare.Goals as goal
 
 pub returns-then-bytes-tail : goal.returns-then-bytes-tail

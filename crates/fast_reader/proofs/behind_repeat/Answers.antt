@@ -1,7 +1,6 @@
 use mathlib.Core.Path.{sym, ◌∙◌}
 use native.Mathlib.Omega.{arith}
 use Rattle.fast_reader.proofs.Repeats.{string_some, repeat_reads}
-use borrow.Author.Rules.{rules}
 use Rattle.fast_reader.proofs.behind_repeat.Goals as goal
 
 pub returns-then-bytes-lt2 : goal.returns-then-bytes-lt2

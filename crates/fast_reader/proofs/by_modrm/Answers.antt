@@ -4,7 +4,6 @@ use native.Mathlib.Omega.{arith}
 use lib.ListN.{get_or}
 use Rattle.fast_reader.proofs.Placing.{pre_prefix}
 use Rattle.fast_reader.proofs.Modrm.{placed_small, one_or_none, register_first, register_second, digit_reads}
-use borrow.Author.Rules.{rules}
 use Rattle.fast_reader.proofs.by_modrm.Goals as goal
 
 pub returns-then-bytes-i : goal.returns-then-bytes-i

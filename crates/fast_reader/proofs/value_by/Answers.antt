@@ -2,7 +2,6 @@ use mathlib.Core.Path.{refl, ap, ◌∙◌}
 use Prim.Native.Nat.{ℕ, ◌+◌, ◌%◌}
 use borrow.Author.Tests.{ne_eqb}
 use Rattle.x86.specs.Reading.{sign_extended}
-use borrow.Author.Rules.{rules}
 use Rattle.fast_reader.proofs.value_by.Goals as goal
 
 pub returns-then-mode-eq0 : goal.returns-then-mode-eq0

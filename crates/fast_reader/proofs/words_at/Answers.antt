@@ -1,5 +1,4 @@
 use native.Mathlib.Omega.{arith}
-use borrow.Author.Rules.{rules}
 use Rattle.fast_reader.proofs.words_at.Goals as goal
 
 pub by_modrm-requires : goal.by_modrm-requires

@@ -1,6 +1,5 @@
-use Rattle.fast_run.proofs.Laws.{unpacked_of, digits_bytes, digits-length, more, none}
+use Rattle.fast_run.proofs.Laws.{unpacked_of, digits_bytes, digits-length, more}
 use native.Mathlib.Omega.{arith}
-use mathlib.Core.Path.{refl, sym, ◌∙◌}
 use borrow.Author.Rules.{rules}
 use Rattle.fast_run.proofs.bare_run.Goals as goal
 

@@ -1,6 +1,6 @@
 use borrow.Author.Tests.{eq-eqb, ne_eqb}
 use native.Mathlib.Omega.{arith}
-use mathlib.Core.Path.{refl, sym, ◌∙◌}
+use mathlib.Core.Path.{refl}
 use Rattle.fast_run.proofs.prefix_length.Goals as goal
 
 pub returns-then-prefix-eq0 : goal.returns-then-prefix-eq0

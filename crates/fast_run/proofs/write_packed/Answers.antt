@@ -1,14 +1,13 @@
-use mathlib.Core.Path.{◌≡◌, sym, ◌∙◌, ap}
-use mathlib.Core.List.{◌++◌}
-use Prim.Native.Nat.{◌≤◌, ◌<◌, ◌-◌}
+use mathlib.Core.Path.{◌≡◌, ◌∙◌}
+use Prim.Native.Nat.{◌<◌, ◌-◌}
 use native.Mathlib.Omega.{arith}
 use native.Mathlib.Numerals.{add-one}
-use lib.ListN.{length, take, drop, length-set}
+use lib.ListN.{length, length-set}
 use lib.Seq.{take_all}
 use borrow.Author.Rules.{rules}
 use Rattle.base_values.proofs.Copies.{copied_more}
 use Rattle.fast_run.specs.Packed.{unpacked}
-use Rattle.fast_run.proofs.Laws.{behind, unpacked-length, byte_at}
+use Rattle.fast_run.proofs.Laws.{unpacked-length, byte_at}
 use Rattle.fast_run.proofs.write_packed.Goals as goal
 
 pub bounds-out-i : goal.bounds-out-i

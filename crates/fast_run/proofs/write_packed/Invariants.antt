@@ -1,14 +1,9 @@
-use mathlib.Core.Path.{◌≡◌, sym, ◌∙◌, ap}
+use mathlib.Core.Path.{◌≡◌}
 use mathlib.Core.List.{◌++◌}
-use Prim.Native.Nat.{◌≤◌, ◌<◌, ◌-◌}
-use native.Mathlib.Omega.{arith}
-use native.Mathlib.Numerals.{add-one}
-use lib.ListN.{length, take, drop, length-set}
-use lib.Seq.{take_all}
-use borrow.Author.Rules.{rules}
-use Rattle.base_values.proofs.Copies.{copied_more}
+use Prim.Native.Nat.{◌≤◌, ◌-◌}
+use lib.ListN.{length, take, drop}
 use Rattle.fast_run.specs.Packed.{unpacked}
-use Rattle.fast_run.proofs.Laws.{behind, unpacked-length, byte_at}
+use Rattle.fast_run.proofs.Laws.{behind}
 use Rattle.fast_run.proofs.write_packed.Given as goal
 
 abbrev pub invariant-loop-i : goal.invariant-loop-i

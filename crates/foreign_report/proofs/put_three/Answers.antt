@@ -1,5 +1,4 @@
 use Rattle.foreign_report.proofs.Laws.{three}
-use borrow.Author.Rules.{rules}
 use Rattle.foreign_report.proofs.put_three.Goals as goal
 
 pub returns : goal.returns

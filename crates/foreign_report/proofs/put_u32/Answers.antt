@@ -1,7 +1,5 @@
 use Rattle.foreign_report.specs.Crossing.{u32_bytes}
 use Rattle.foreign_report.proofs.Laws.{four_set}
-use lib.ListN.{length-set}
-use native.Mathlib.Omega.{arith}
 use borrow.Author.Rules.{rules}
 use Rattle.foreign_report.proofs.put_u32.Goals as goal
 

@@ -1,4 +1,3 @@
-use borrow.Author.Rules.{rules}
 use Rattle.foreign_report.proofs.response_encoded.Goals as goal
 
 pub returns-in-Length : goal.returns-in-Length

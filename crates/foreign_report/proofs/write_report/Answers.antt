@@ -3,7 +3,6 @@ use mir.Val.{SFits}
 use mir.Syntax.{w32}
 use Rattle.foreign_report.proofs.Laws.{reported}
 use borrow.Author.Tests.{lt-leb}
-use borrow.Author.Rules.{rules}
 use Rattle.foreign_report.proofs.write_report.Goals as goal
 
 pub returns-then-report-lt28 : goal.returns-then-report-lt28

@@ -1,4 +1,4 @@
-use Rattle.std.proofs.Common.{◌≡◌, ltb, ⊎_elim, rules, le-ltb, lt-ltb, eq-eqb, ne_eqb}
+use Rattle.std.proofs.Common.{◌≡◌, ltb, le-ltb, lt-ltb, eq-eqb, ne_eqb}
 use Rattle.mrc_compiler.specs.Choose.{pick}
 use Rattle.list_spec.specs.Candidates.{candidate_of}
 use Rattle.list_candidates.proofs.candidate_run.Goals as goal

@@ -1,4 +1,4 @@
-use Rattle.std.proofs.Common.{rules, eq-eqb, ne_eqb}
+use Rattle.std.proofs.Common.{eq-eqb, ne_eqb}
 use Rattle.list_candidates.proofs.push_prefix.Goals as goal
 
 pub returns-then-prefix-eq0 : goal.returns-then-prefix-eq0

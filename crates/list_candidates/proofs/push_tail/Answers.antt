@@ -1,4 +1,3 @@
-use Rattle.std.proofs.Common.{rules}
 use Rattle.list_candidates.proofs.push_tail.Goals as goal
 
 pub returns-in-None : goal.returns-in-None

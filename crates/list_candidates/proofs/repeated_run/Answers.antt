@@ -1,4 +1,3 @@
-use Rattle.std.proofs.Common.{rules}
 use Rattle.list_candidates.proofs.repeated_run.Goals as goal
 
 pub returns : goal.returns

@@ -1,4 +1,3 @@
-use Rattle.std.proofs.Common.{rules}
 use Rattle.list_candidates.proofs.Laws.{string_of_lem}
 use Rattle.list_candidates.proofs.string_run.Goals as goal
 

@@ -1,4 +1,3 @@
-use borrow.Author.Rules.{rules}
 use Rattle.list_spec.specs.Operands.{same_instruction}
 use Rattle.list_compare.proofs.same_instruction.Goals as goal
 

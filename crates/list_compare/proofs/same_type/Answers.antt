@@ -1,4 +1,3 @@
-use borrow.Author.Rules.{rules}
 use Rattle.list_compare.proofs.same_type.Goals as goal
 
 pub returns : goal.returns

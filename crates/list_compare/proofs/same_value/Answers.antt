@@ -1,4 +1,3 @@
-use borrow.Author.Rules.{rules}
 use Rattle.list_compare.proofs.same_value.Goals as goal
 
 pub returns : goal.returns

@@ -1,4 +1,3 @@
-use Rattle.std.proofs.Common.{rules}
 use Rattle.list_parts.proofs.far_segment_of.Goals as goal
 
 pub returns : goal.returns

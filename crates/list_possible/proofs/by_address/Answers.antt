@@ -1,5 +1,4 @@
 use mathlib.Core.Path.{sym, ◌∙◌}
-use borrow.Author.Rules.{rules}
 use Rattle.list_possible.proofs.by_address.Goals as goal
 
 pub returns-then-is_address : goal.returns-then-is_address

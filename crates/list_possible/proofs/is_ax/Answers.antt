@@ -1,5 +1,4 @@
 use mathlib.Core.Path.{sym, ◌∙◌}
-use borrow.Author.Rules.{rules}
 use Rattle.list_possible.proofs.is_ax.Goals as goal
 
 pub returns-then-is_accumulator : goal.returns-then-is_accumulator

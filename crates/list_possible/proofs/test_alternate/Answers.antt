@@ -1,5 +1,4 @@
 use mathlib.Core.Path.{sym, ◌∙◌}
-use borrow.Author.Rules.{rules}
 use Rattle.list_possible.proofs.test_alternate.Goals as goal
 
 pub returns-then-is_a : goal.returns-then-is_a

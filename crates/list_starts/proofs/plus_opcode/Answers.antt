@@ -1,4 +1,3 @@
-use Rattle.std.proofs.Common.{rules}
 use Rattle.list_starts.proofs.plus_opcode.Goals as goal
 
 pub returns : goal.returns

@@ -1,4 +1,3 @@
-use Rattle.std.proofs.Common.{rules}
 use Rattle.list_starts.proofs.start_with_rm.Goals as goal
 
 pub returns : goal.returns

@@ -1,4 +1,3 @@
-use borrow.Author.Rules.{rules}
 use Rattle.lister.proofs.Runs.{candidate_is, possible_is, run_short, key_yes, key_no, key_none}
 use Rattle.lister.proofs.candidate_key.Goals as goal
 

@@ -1,4 +1,3 @@
-use borrow.Author.Rules.{rules}
 use Rattle.lister.proofs.is_run_of.Goals as goal
 
 pub returns : goal.returns

@@ -1,4 +1,3 @@
-use borrow.Author.Rules.{rules}
 use Rattle.lister.proofs.Accepted.{is_refused, short, too_short, listed_all}
 use Rattle.lister.proofs.list.Goals as goal
 

@@ -1,11 +1,11 @@
-use mathlib.Core.Path.{◌≡◌, refl, ◌∙◌}
+use mathlib.Core.Path.{refl, ◌∙◌}
 use mathlib.Core.List.{◌++◌}
-use Prim.Native.Nat.{◌≤◌, ◌<◌, ◌-◌, ◌*◌}
+use Prim.Native.Nat.{◌<◌, ◌-◌, ◌*◌}
 use native.Mathlib.Omega.{arith}
 use lib.ListN.{length, drop, length-set}
 use borrow.Author.Rules.{rules}
 use Rattle.list_entries.proofs.Listed.{entered}
-use Rattle.lister.proofs.Runs.{Filled, fill_again, fill_done}
+use Rattle.lister.proofs.Runs.{fill_again, fill_done}
 use Rattle.lister.proofs.list_instruction.Goals as goal
 
 pub loop-i-init : goal.loop-i-init

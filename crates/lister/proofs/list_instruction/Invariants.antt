@@ -1,11 +1,7 @@
-use mathlib.Core.Path.{◌≡◌, refl, ◌∙◌}
-use mathlib.Core.List.{◌++◌}
-use Prim.Native.Nat.{◌≤◌, ◌<◌, ◌-◌, ◌*◌}
-use native.Mathlib.Omega.{arith}
-use lib.ListN.{length, drop, length-set}
-use borrow.Author.Rules.{rules}
-use Rattle.list_entries.proofs.Listed.{entered}
-use Rattle.lister.proofs.Runs.{Filled, fill_again, fill_done}
+use mathlib.Core.Path.{◌≡◌}
+use Prim.Native.Nat.{◌≤◌, ◌-◌}
+use lib.ListN.{length}
+use Rattle.lister.proofs.Runs.{Filled}
 use Rattle.lister.proofs.list_instruction.Given as goal
 
 abbrev pub invariant-loop-i : goal.invariant-loop-i

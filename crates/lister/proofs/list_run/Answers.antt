@@ -1,4 +1,3 @@
-use borrow.Author.Rules.{rules}
 use lib.ListN.{take}
 use Rattle.lister.proofs.Accepted.{read_whole, read_nothing, read_more}
 use Rattle.lister.proofs.list_run.Goals as goal

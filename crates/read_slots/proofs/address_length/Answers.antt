@@ -1,4 +1,3 @@
-use borrow.Author.Rules.{rules}
 use Rattle.read_slots.proofs.address_length.Goals as goal
 
 pub returns-in-ByModRm : goal.returns-in-ByModRm

@@ -1,5 +1,4 @@
 use Rattle.read_slots.proofs.Laws.{tests}
-use borrow.Author.Rules.{rules}
 use Rattle.read_slots.proofs.allows_second.Goals as goal
 
 pub returns-then-x-eq1 : goal.returns-then-x-eq1

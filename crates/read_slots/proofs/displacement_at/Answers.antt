@@ -1,5 +1,4 @@
 use Rattle.read_slots.proofs.Laws.{tests}
-use borrow.Author.Rules.{rules}
 use Rattle.read_slots.proofs.displacement_at.Goals as goal
 
 pub returns-then-n-eq0 : goal.returns-then-n-eq0

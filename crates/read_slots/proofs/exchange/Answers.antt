@@ -1,6 +1,5 @@
 use mathlib.Core.Path.{sym, ◌∙◌}
 use Rattle.read_slots.proofs.Laws.{is_register, none_first, none_second}
-use borrow.Author.Rules.{rules}
 use Rattle.read_slots.proofs.exchange.Goals as goal
 
 pub returns-in-Is-register_in : goal.returns-in-Is-register_in

@@ -1,4 +1,3 @@
-use borrow.Author.Rules.{rules}
 use Rattle.read_slots.proofs.in_memory.Goals as goal
 
 pub returns-in-ByModRm : goal.returns-in-ByModRm

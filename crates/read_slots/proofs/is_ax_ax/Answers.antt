@@ -1,5 +1,4 @@
 use Rattle.read_slots.proofs.Laws.{tests}
-use borrow.Author.Rules.{rules}
 use Rattle.read_slots.proofs.is_ax_ax.Goals as goal
 
 pub returns-then-m-eq0 : goal.returns-then-m-eq0

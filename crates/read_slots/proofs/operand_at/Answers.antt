@@ -1,4 +1,3 @@
-use borrow.Author.Rules.{rules}
 use Rattle.read_slots.proofs.operand_at.Goals as goal
 
 pub returns-in-Rm : goal.returns-in-Rm

@@ -1,6 +1,5 @@
 use mathlib.Core.Path.{sym, ◌∙◌}
 use Rattle.read_slots.proofs.Laws.{register_first, register_behind, no_registers}
-use borrow.Author.Rules.{rules}
 use Rattle.read_slots.proofs.register_first.Goals as goal
 
 pub returns-in-Is : goal.returns-in-Is

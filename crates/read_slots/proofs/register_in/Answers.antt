@@ -1,4 +1,3 @@
-use borrow.Author.Rules.{rules}
 use Rattle.read_slots.proofs.register_in.Goals as goal
 
 pub returns-in-None : goal.returns-in-None

@@ -1,5 +1,4 @@
 use Rattle.read_slots.proofs.Laws.{tests}
-use borrow.Author.Rules.{rules}
 use Rattle.read_slots.proofs.rm_at.Goals as goal
 
 pub returns-then-x-lt3 : goal.returns-then-x-lt3

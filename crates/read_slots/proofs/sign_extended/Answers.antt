@@ -1,5 +1,4 @@
 use Rattle.read_slots.proofs.Laws.{tests}
-use borrow.Author.Rules.{rules}
 use Rattle.read_slots.proofs.sign_extended.Goals as goal
 
 pub returns-then-b-lt128 : goal.returns-then-b-lt128

@@ -1,5 +1,4 @@
 use native.Mathlib.Numerals.{add-one}
-use borrow.Author.Rules.{rules}
 use Rattle.read_slots.proofs.word_at.Goals as goal
 
 pub returns : goal.returns

@@ -1,4 +1,3 @@
-use borrow.Author.Rules.{rules}
 use Rattle.read_table.proofs.form_at.Goals as goal
 
 pub returns-in-Unused : goal.returns-in-Unused

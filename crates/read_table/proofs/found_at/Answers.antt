@@ -1,5 +1,4 @@
 use mathlib.Core.Path.{sym, ◌∙◌}
-use borrow.Author.Rules.{rules}
 use Rattle.read_table.proofs.found_at.Goals as goal
 
 pub returns-then-slots_fit : goal.returns-then-slots_fit

@@ -1,6 +1,5 @@
 use native.Mathlib.Omega.{arith}
 use Rattle.read_table.proofs.Laws.{tests}
-use borrow.Author.Rules.{rules}
 use Rattle.read_table.proofs.line_of.Goals as goal
 
 pub returns-then-x-eq10 : goal.returns-then-x-eq10

@@ -1,5 +1,4 @@
 use mathlib.Core.Path.{sym, ◌∙◌}
-use borrow.Author.Rules.{rules}
 use Rattle.read_table.proofs.slots_fit.Goals as goal
 
 pub returns-then-allows_second : goal.returns-then-allows_second

@@ -1,4 +1,3 @@
-use mathlib.Core.Path.{sym, ◌∙◌}
 use borrow.Author.Tests.{lt-ltb, le-ltb}
 use Rattle.reader.proofs.Laws.{string_byte_lem}
 use Rattle.reader.proofs.begins_string.Goals as goal

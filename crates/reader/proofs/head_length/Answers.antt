@@ -1,7 +1,6 @@
 use borrow.Author.Tests.{eq-eqb, ne_eqb}
 use Rattle.reader.proofs.Laws.{one_or_two}
 use native.Mathlib.Omega.{arith}
-use borrow.Author.Rules.{rules}
 use Rattle.reader.proofs.head_length.Goals as goal
 
 pub overflow_add-result : goal.overflow_add-result

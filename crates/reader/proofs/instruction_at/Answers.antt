@@ -1,5 +1,4 @@
 use Rattle.reader.proofs.Laws.{parts, parts_alike, is_test}
-use borrow.Author.Rules.{rules}
 use Rattle.reader.proofs.instruction_at.Goals as goal
 
 pub settled-requires : goal.settled-requires

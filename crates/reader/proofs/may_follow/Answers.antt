@@ -1,5 +1,4 @@
 use borrow.Author.Tests.{eq-eqb, ne_eqb}
-use borrow.Author.Rules.{rules}
 use Rattle.reader.proofs.may_follow.Goals as goal
 
 pub returns-then-prefix-eq0 : goal.returns-then-prefix-eq0

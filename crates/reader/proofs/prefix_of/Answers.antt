@@ -1,5 +1,4 @@
 use mathlib.Core.Path.{sym, ◌∙◌}
-use borrow.Author.Rules.{rules}
 use Rattle.reader.proofs.prefix_of.Goals as goal
 
 pub returns-then-is_prefix : goal.returns-then-is_prefix

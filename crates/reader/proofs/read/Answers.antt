@@ -1,6 +1,5 @@
 use mathlib.Core.Path.{sym, ◌∙◌}
 use native.Mathlib.Omega.{arith}
-use borrow.Author.Rules.{rules}
 use Rattle.reader.proofs.Laws.{two_bytes, string_behind, with_repeat, plain_decoded}
 use Rattle.reader.proofs.read.Goals as goal
 

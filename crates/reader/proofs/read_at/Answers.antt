@@ -1,6 +1,5 @@
 use mathlib.Core.Path.{sym, ◌∙◌}
 use Rattle.reader.proofs.Laws.{whole_back, nothing_back, more_back}
-use borrow.Author.Rules.{rules}
 use Rattle.reader.proofs.read_at.Goals as goal
 
 pub returns-in-Whole : goal.returns-in-Whole

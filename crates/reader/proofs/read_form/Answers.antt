@@ -1,6 +1,5 @@
 use native.Mathlib.Omega.{arith}
 use Rattle.reader.proofs.Laws.{form_whole, form_more, form_nothing}
-use borrow.Author.Rules.{rules}
 use Rattle.reader.proofs.read_form.Goals as goal
 
 pub instruction_at-m-requires : goal.instruction_at-m-requires

@@ -1,5 +1,4 @@
 use Rattle.reader.proofs.Laws.{opcode_empty, opcode_unused, opcode_nothing, opcode_more, opcode_on}
-use borrow.Author.Rules.{rules}
 use Rattle.reader.proofs.read_opcode.Goals as goal
 
 pub returns-then-row-eq0 : goal.returns-then-row-eq0

@@ -1,6 +1,5 @@
 use native.Mathlib.Omega.{arith}
 use Rattle.reader.proofs.Laws.{read_empty, read_on}
-use borrow.Author.Rules.{rules}
 use Rattle.reader.proofs.read_plain.Goals as goal
 
 pub returns-then-bytes-gt0 : goal.returns-then-bytes-gt0

@@ -1,4 +1,3 @@
-use borrow.Author.Rules.{rules}
 use Rattle.reader.proofs.read_repeated.Goals as goal
 
 pub string_operation-operation-requires : goal.string_operation-operation-requires

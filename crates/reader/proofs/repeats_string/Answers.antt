@@ -1,5 +1,4 @@
 use mathlib.Core.Path.{sym, ◌∙◌}
-use borrow.Author.Rules.{rules}
 use Rattle.reader.proofs.Laws.{short_not, two_repeat}
 use Rattle.reader.proofs.repeats_string.Goals as goal
 

@@ -1,6 +1,5 @@
 use mathlib.Core.Path.{sym}
 use lib.ListN.{get_or-eq_default}
-use borrow.Author.Rules.{rules}
 use Rattle.reader.proofs.second_byte.Goals as goal
 
 pub returns-then-s-gt1 : goal.returns-then-s-gt1

@@ -1,6 +1,5 @@
 use mathlib.Core.Path.{sym, ◌∙◌}
 use Rattle.x86.proofs.Orders.{as_they_stand}
-use borrow.Author.Rules.{rules}
 use Rattle.reader.proofs.settled.Goals as goal
 
 pub exchange-requires : goal.exchange-requires

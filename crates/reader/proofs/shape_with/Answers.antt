@@ -1,7 +1,5 @@
-use mathlib.Core.Path.{sym, ◌∙◌}
-use native.Mathlib.Omega.{arith}
+use mathlib.Core.Path.{◌∙◌}
 use Rattle.reader.proofs.Laws.{one_shape}
-use borrow.Author.Rules.{rules}
 use Rattle.reader.proofs.shape_with.Goals as goal
 
 pub returns-then-row-lt45 : goal.returns-then-row-lt45

@@ -1,4 +1,3 @@
-use borrow.Author.Rules.{rules}
 use Rattle.short_list.proofs.is_whole.Goals as goal
 
 pub returns-in-Whole : goal.returns-in-Whole

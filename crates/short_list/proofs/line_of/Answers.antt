@@ -4,7 +4,6 @@ use borrow.Author.Tests.{lt-ltb, le-ltb}
 use Rattle.text_line.specs.Numbers.{line_feed, hex_byte}
 use Rattle.text_line.specs.Steps.{empty_line}
 use Rattle.text_line.proofs.Laws.{then}
-use borrow.Author.Rules.{rules}
 use Rattle.short_list.proofs.line_of.Goals as goal
 
 -- look: -- a byte or two, and the line feed

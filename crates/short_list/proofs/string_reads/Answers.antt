@@ -1,5 +1,4 @@
 use borrow.Author.Tests.{lt-ltb, le-ltb}
-use borrow.Author.Rules.{rules}
 use Rattle.short_list.proofs.string_reads.Goals as goal
 
 pub returns-then-k-lt256 : goal.returns-then-k-lt256

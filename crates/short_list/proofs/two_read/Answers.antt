@@ -1,6 +1,5 @@
 use mathlib.Core.List.{[], ◌∷◌}
 use Rattle.short_list.proofs.Laws.{whole_is}
-use borrow.Author.Rules.{rules}
 use Rattle.short_list.proofs.two_read.Goals as goal
 
 pub returns : goal.returns

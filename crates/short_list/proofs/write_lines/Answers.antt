@@ -1,12 +1,11 @@
-use Rattle.base_values.proofs.Fronts.{Front, front_start, front_next, lent_length}
+use Rattle.base_values.proofs.Fronts.{front_start, front_next, lent_length}
 use Rattle.short_list.proofs.Laws.{none_yet, lines_next, count_next, lines_fit, count_fits}
 use Rattle.short_list.proofs.Counts.{count_is, lines_are}
 use Rattle.short_list.specs.Short.{strings, short_of}
 use Rattle.short_list.specs.Text.{lines_of}
-use borrow.Author.Rules.{rules}
-use lib.ListN.{length, length-append}
+use lib.ListN.{length-append}
 use native.Mathlib.Omega.{arith}
-use Prim.Native.Nat.{◌≤◌, ◌-◌}
+use Prim.Native.Nat.{◌-◌}
 use mathlib.Core.Path.{◌≡◌, refl}
 use Rattle.short_list.proofs.write_lines.Goals as goal
 

@@ -1,13 +1,9 @@
-use Rattle.base_values.proofs.Fronts.{Front, front_start, front_next, lent_length}
-use Rattle.short_list.proofs.Laws.{none_yet, lines_next, count_next, lines_fit, count_fits}
-use Rattle.short_list.proofs.Counts.{count_is, lines_are}
+use Rattle.base_values.proofs.Fronts.{Front}
 use Rattle.short_list.specs.Short.{strings, short_of}
 use Rattle.short_list.specs.Text.{lines_of}
-use borrow.Author.Rules.{rules}
-use lib.ListN.{length, length-append}
-use native.Mathlib.Omega.{arith}
+use lib.ListN.{length}
 use Prim.Native.Nat.{◌≤◌, ◌-◌}
-use mathlib.Core.Path.{◌≡◌, refl}
+use mathlib.Core.Path.{◌≡◌}
 use Rattle.short_list.proofs.write_lines.Given as goal
 
 abbrev pub invariant-loop-k : goal.invariant-loop-k

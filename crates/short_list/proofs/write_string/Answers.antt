@@ -1,6 +1,5 @@
 use native.Mathlib.Omega.{arith}
 use Rattle.short_list.proofs.Laws.{line_length, string_holds}
-use borrow.Author.Rules.{rules}
 use Rattle.short_list.proofs.write_string.Goals as goal
 
 pub write_line-requires : goal.write_line-requires

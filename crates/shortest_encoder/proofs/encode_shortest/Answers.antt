@@ -1,4 +1,3 @@
-use borrow.Author.Rules.{rules}
 use Rattle.encoder.proofs.Laws.{len_of, refused_by, out_by}
 use Rattle.shortest_encoder.specs.Shortest.{shortest_answer}
 use Rattle.shortest_encoder.proofs.Short.{short_answer}

@@ -1,10 +1,8 @@
 use mathlib.Core.Path.{sym, ◌∙◌}
-use Prim.Native.Nat.{◌≤◌, ◌-◌}
+use Prim.Native.Nat.{◌-◌}
 use native.Mathlib.Omega.{arith}
-use borrow.Author.Rules.{rules}
 use Rattle.lister.proofs.Runs.{possible_is}
-use Rattle.shortest_encoder.specs.Search.{string_in}
-use Rattle.shortest_encoder.proofs.Loop.{Held, begun, is_best, next, skip, done}
+use Rattle.shortest_encoder.proofs.Loop.{begun, is_best, next, skip, done}
 use Rattle.shortest_encoder.proofs.shortest_of.Goals as goal
 use Rattle.shortest_encoder.proofs.shortest_of.Goals.{then-is_possible, else-is_possible}
 

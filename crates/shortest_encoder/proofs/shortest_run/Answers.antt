@@ -1,5 +1,4 @@
 use mathlib.Core.Path.{sym, ◌∙◌}
-use borrow.Author.Rules.{rules}
 use Rattle.lister.proofs.Accepted.{short}
 use Rattle.shortest_encoder.proofs.Accepted.{refuses, own_run, stays, not_nothing_read, not_more_read, finds}
 use Rattle.shortest_encoder.proofs.shortest_run.Goals as goal

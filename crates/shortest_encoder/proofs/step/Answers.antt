@@ -1,5 +1,4 @@
 use Prim.Native.Nat.{◌+◌}
-use borrow.Author.Rules.{rules}
 use Rattle.shortest_encoder.proofs.Ways.{short_run, built, high, plain, alone, longer, prefixed, unread_both}
 use Rattle.shortest_encoder.proofs.step.Goals as goal
 

@@ -1,6 +1,6 @@
 use Rattle.show_file.proofs.Opening.{opened_exact}
 use Rattle.show_load.specs.Loading.{show_accepted}
-use Rattle.std.proofs.Common.{sym, ◌∙◌, rules, le-ltb, lt-ltb}
+use Rattle.std.proofs.Common.{sym, ◌∙◌, le-ltb, lt-ltb}
 use Rattle.show_check.proofs.check.Goals as goal
 
 pub first_unknown-unknown-requires : goal.first_unknown-unknown-requires

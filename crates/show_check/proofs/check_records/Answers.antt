@@ -1,4 +1,4 @@
-use Rattle.std.proofs.Common.{sym, refl, ap, ◌∙◌, rules}
+use Rattle.std.proofs.Common.{sym, refl, ap, ◌∙◌}
 use Rattle.show_load.specs.Loading.{walk}
 use Rattle.show_check.specs.Placed.{is_image}
 use Rattle.show_check.proofs.Laws.{checked_image}

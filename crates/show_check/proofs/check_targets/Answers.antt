@@ -1,4 +1,4 @@
-use Rattle.std.proofs.Common.{w32, rules}
+use Rattle.std.proofs.Common.{w32}
 use mir.ValLaws.{to_z-of_z}
 use Rattle.encode_spec.specs.Records.{dst}
 use Rattle.show_file.specs.Show.{insn_at}

@@ -1,10 +1,7 @@
-use Rattle.std.proofs.Common.{◌≡◌, ◌-◌, ◌≤◌, length, refl, ◌∙◌, arith, length-set, rules}
-use Rattle.show_load.proofs.Laws.{ran, Upto, upto_start, within_seven}
-use Rattle.show_check.proofs.Steps.{step_none, step_refused}
+use Rattle.std.proofs.Common.{◌≡◌, ◌-◌, ◌≤◌, length}
+use Rattle.show_load.proofs.Laws.{Upto}
 use Rattle.convert_laws.specs.Passed.{Table}
-use Rattle.convert_passes.proofs.Laws.{table_start, table_next}
 use Rattle.check_spec.specs.Checking.{start_of}
-use Rattle.encode_spec.proofs.Values.{false-true}
 use Rattle.show_check.proofs.place_records.Given as goal
 
 abbrev pub invariant-loop-k : goal.invariant-loop-k

@@ -1,9 +1,7 @@
-use Rattle.std.proofs.Common.{◌≡◌, ◌-◌, ◌≤◌, rules}
+use Rattle.std.proofs.Common.{◌≡◌, ◌-◌, ◌≤◌}
 use Rattle.show_file.specs.Show.{first_from}
-use Rattle.show_file.proofs.Laws.{from_start, from_yes, from_no, from_end}
 use Rattle.convert_passes.specs.Passes.{place}
 use Rattle.check_spec.specs.Checking.{is_inside, record_around}
-use Rattle.show_check.proofs.Laws.{inside_yes, inside_no}
 use Rattle.show_check.proofs.record_around.Given as goal
 
 abbrev pub invariant-loop-k : goal.invariant-loop-k

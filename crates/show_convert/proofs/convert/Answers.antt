@@ -1,7 +1,6 @@
 use mathlib.Core.Path.{sym, ◌∙◌}
 use Rattle.convert_laws.proofs.Shown.{shown_is}
 use Rattle.show_convert.proofs.Answers.{not_opened, opened_as}
-use borrow.Author.Rules.{rules}
 use Rattle.show_convert.proofs.convert.Goals as goal
 
 pub convert_show-requires : goal.convert_show-requires

@@ -4,7 +4,6 @@ use lib.ListN.{length}
 use Rattle.convert_passes.proofs.Measuring.{exact}
 use Rattle.show_convert.specs.Placing.{stray_of}
 use Rattle.show_convert.proofs.Answers.{none_before, filled, stray_is, stray_first}
-use borrow.Author.Rules.{rules}
 use Rattle.show_convert.proofs.convert_laid.Goals as goal
 
 pub first_stray-stray-requires : goal.first_stray-stray-requires

@@ -5,7 +5,6 @@ use Rattle.convert_spec.specs.declared.Converted.TheVariants as C
 use Rattle.convert_spec.specs.OldStarts.{first_copy}
 use Rattle.convert_passes.proofs.Measuring.{exact}
 use Rattle.show_convert.proofs.Answers.{too_many, refused_there, no_room, room}
-use borrow.Author.Rules.{rules}
 use Rattle.show_convert.proofs.convert_placed.Goals as goal
 
 pub total-c-requires : goal.total-c-requires

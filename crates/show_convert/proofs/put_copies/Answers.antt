@@ -1,8 +1,8 @@
-use Prim.Native.Nat.{◌≤◌, ◌-◌, ◌*◌}
+use Prim.Native.Nat.{◌-◌}
 use mathlib.Core.Path.{◌≡◌}
 use native.Mathlib.Numerals.{add-one}
 use native.Mathlib.Omega.{arith}
-use Rattle.base_values.proofs.Fronts.{Front, front_start, front_next, lent_length}
+use Rattle.base_values.proofs.Fronts.{front_start, front_next, lent_length}
 use Rattle.convert_spec.specs.Written.{copies}
 use Rattle.convert_laws.proofs.Written.{copies_length}
 use borrow.Author.Rules.{rules}

@@ -8,7 +8,6 @@ use Rattle.show_convert.proofs.Writing.{record_part}
 use Rattle.show_convert.proofs.Patched.{put_is, patch_is, copied}
 use Rattle.convert_passes.proofs.Measuring.{exact, movable}
 use native.Mathlib.Omega.{arith}
-use borrow.Author.Rules.{rules}
 use Rattle.show_convert.proofs.write_record.Goals as goal
 
 pub insn_at-insn-requires : goal.insn_at-insn-requires

@@ -1,9 +1,8 @@
 use mathlib.Core.Bool.{true, false}
-use mathlib.Core.Path.{◌≡◌}
-use Prim.Native.Nat.{◌≤◌, ◌-◌}
+use Prim.Native.Nat.{◌-◌}
 use native.Mathlib.Omega.{arith}
 use borrow.Author.Rules.{rules}
-use Rattle.show_file.specs.Show.{first_from, first_unknown, is_unknown}
+use Rattle.show_file.specs.Show.{is_unknown}
 use Rattle.show_file.proofs.Laws.{from_start, from_yes, from_no, from_end, not_longer, ends_within, handed_is, handed_record, unknown_is}
 use Rattle.show_file.proofs.first_unknown.Goals as goal
 

@@ -1,5 +1,4 @@
 use native.Mathlib.Omega.{arith}
-use borrow.Author.Rules.{rules}
 use Rattle.show_file.proofs.Laws.{not_longer, ends_within, handed_is, handed_record}
 use Rattle.show_file.proofs.insn_at.Goals as goal
 

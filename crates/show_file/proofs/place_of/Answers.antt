@@ -1,4 +1,3 @@
-use borrow.Author.Rules.{rules}
 use native.Mathlib.Omega.{arith}
 use Rattle.show_file.proofs.Laws.{not_longer}
 use Rattle.show_file.proofs.place_of.Goals as goal

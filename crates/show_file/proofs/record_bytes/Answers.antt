@@ -1,4 +1,3 @@
-use borrow.Author.Rules.{rules}
 use Rattle.show_file.specs.Show.{u16_at, record_bytes}
 use Rattle.show_file.proofs.record_bytes.Goals as goal
 

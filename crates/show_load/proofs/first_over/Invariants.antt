@@ -1,8 +1,7 @@
 use Rattle.show_file.specs.Show.{first_from}
-use Rattle.show_file.proofs.Laws.{from_start, from_yes, from_no, from_end}
-use Rattle.show_load.proofs.Laws.{ran, Upto, upto_start, step_all, over_yes, over_no}
+use Rattle.show_load.proofs.Laws.{Upto}
 use Rattle.show_load.specs.Loading.{first_over, is_over}
-use Rattle.std.proofs.Common.{◌≡◌, ◌-◌, ◌≤◌, arith, rules}
+use Rattle.std.proofs.Common.{◌≡◌, ◌-◌, ◌≤◌}
 use Rattle.show_load.proofs.first_over.Given as goal
 
 abbrev pub invariant-loop-k : goal.invariant-loop-k

@@ -1,5 +1,4 @@
 use Rattle.fast_run.proofs.Laws.{ne_positive}
-use Rattle.std.proofs.Common.{rules}
 use Rattle.show_load.proofs.length_at.Goals as goal
 
 pub returns-then-packed-ne0 : goal.returns-then-packed-ne0

@@ -1,5 +1,5 @@
 use Rattle.show_load.proofs.Laws.{accepted_image, over_below}
-use Rattle.std.proofs.Common.{sym, ◌∙◌, rules, le-leb}
+use Rattle.std.proofs.Common.{sym, ◌∙◌, le-leb}
 use borrow.Author.Tests.{lt-leb}
 use Rattle.show_load.proofs.load.Goals as goal
 

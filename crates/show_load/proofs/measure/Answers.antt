@@ -1,5 +1,5 @@
-use Rattle.show_load.proofs.Laws.{Upto, upto_start, step_length, step_refused, within_seven}
-use Rattle.std.proofs.Common.{◌≡◌, ◌+◌, ◌-◌, ◌≤◌, sym, ◌∙◌, arith, rules}
+use Rattle.show_load.proofs.Laws.{upto_start, step_length, step_refused, within_seven}
+use Rattle.std.proofs.Common.{◌≡◌, ◌+◌, ◌-◌, sym, ◌∙◌, arith, rules}
 use Rattle.show_load.proofs.measure.Goals as goal
 
 pub loop-k-init : goal.loop-k-init

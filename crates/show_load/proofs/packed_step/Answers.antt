@@ -1,4 +1,4 @@
-use Rattle.std.proofs.Common.{sym, ap, ◌∙◌, arith, rules}
+use Rattle.std.proofs.Common.{arith}
 use Rattle.show_file.proofs.Laws.{not_longer, ends_within, handed_is}
 use Rattle.show_load.proofs.packed_step.Goals as goal
 

@@ -1,4 +1,3 @@
-use Rattle.std.proofs.Common.{rules}
 use Rattle.show_load.proofs.run_at.Goals as goal
 
 pub returns : goal.returns

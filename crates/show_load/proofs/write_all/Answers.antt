@@ -1,7 +1,7 @@
-use Rattle.base_values.proofs.Fronts.{Front, front_start, front_next, lent_length}
-use Rattle.show_load.proofs.Laws.{Upto, upto_start, step_all, step_in}
-use Rattle.show_load.specs.Loading.{walk, bytes_in}
-use Rattle.std.proofs.Common.{◌≡◌, ◌-◌, ◌≤◌, arith, rules}
+use Rattle.base_values.proofs.Fronts.{front_start, front_next, lent_length}
+use Rattle.show_load.proofs.Laws.{upto_start, step_all, step_in}
+use Rattle.show_load.specs.Loading.{walk}
+use Rattle.std.proofs.Common.{◌≡◌, ◌-◌, arith, rules}
 use Rattle.show_load.proofs.write_all.Goals as goal
 
 pub loop-k-init : goal.loop-k-init

@@ -1,7 +1,7 @@
-use Rattle.base_values.proofs.Fronts.{Front, front_start, front_next, lent_length}
-use Rattle.show_load.proofs.Laws.{Upto, upto_start, step_all, step_in}
+use Rattle.base_values.proofs.Fronts.{Front}
+use Rattle.show_load.proofs.Laws.{Upto}
 use Rattle.show_load.specs.Loading.{walk, bytes_in}
-use Rattle.std.proofs.Common.{◌≡◌, ◌-◌, ◌≤◌, arith, rules}
+use Rattle.std.proofs.Common.{◌-◌, ◌≤◌}
 use Rattle.show_load.proofs.write_all.Given as goal
 
 abbrev pub invariant-loop-k : goal.invariant-loop-k

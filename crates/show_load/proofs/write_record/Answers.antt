@@ -1,6 +1,6 @@
 use Rattle.show_load.proofs.Laws.{ran}
 use Rattle.fast_run.proofs.Laws.{ne_positive, unpacked-length}
-use Rattle.std.proofs.Common.{arith, rules, le-leb}
+use Rattle.std.proofs.Common.{arith, le-leb}
 use Rattle.show_load.proofs.write_record.Goals as goal
 
 pub write_packed-requires : goal.write_packed-requires

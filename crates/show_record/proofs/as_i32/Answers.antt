@@ -1,5 +1,4 @@
 use Rattle.show_record.proofs.Laws.{low_read, high_fits, high_read}
-use borrow.Author.Rules.{rules}
 use Rattle.show_record.proofs.as_i32.Goals as goal
 
 pub overflow_sub-result-else-n-lt2147483648 : goal.overflow_sub-result-else-n-lt2147483648

@@ -1,6 +1,5 @@
 use mathlib.Core.Path.{sym}
 use lib.ListN.{get_or-eq_default}
-use borrow.Author.Rules.{rules}
 use Rattle.show_record.proofs.byte_at.Goals as goal
 
 pub returns-else-at-bytes : goal.returns-else-at-bytes

@@ -1,6 +1,5 @@
 use native.Mathlib.Omega.{arith}
 use lib.ListN.{length}
-use borrow.Author.Rules.{rules}
 use Rattle.show_record.specs.Record.{instruction_at}
 use Rattle.show_record.proofs.Laws.{record_length}
 use Rattle.show_record.proofs.instruction_at.Goals as goal

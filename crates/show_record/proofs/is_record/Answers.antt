@@ -1,4 +1,3 @@
-use borrow.Author.Rules.{rules}
 use Rattle.show_record.proofs.is_record.Goals as goal
 
 pub returns : goal.returns

@@ -1,6 +1,5 @@
 use mathlib.Core.Path.{sym, ◌∙◌}
 use Rattle.show_record.proofs.Laws.{numbered_some, numbered_none}
-use borrow.Author.Rules.{rules}
 use Rattle.show_record.proofs.operation_of.Goals as goal
 
 pub returns-in-Some : goal.returns-in-Some

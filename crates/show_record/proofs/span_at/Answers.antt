@@ -1,4 +1,3 @@
-use borrow.Author.Rules.{rules}
 use Rattle.show_record.proofs.span_at.Goals as goal
 
 pub returns : goal.returns

@@ -1,5 +1,4 @@
 use Rattle.show_text.proofs.Laws.{first_made}
-use borrow.Author.Rules.{rules}
 use Rattle.show_text.proofs.first_line.Goals as goal
 
 pub returns : goal.returns

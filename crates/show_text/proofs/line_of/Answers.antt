@@ -2,7 +2,6 @@ use Rattle.show_text.proofs.Laws.{line_made}
 use lib.ListN.{take}
 use lib.Seq.{length-take-le}
 use mathlib.Core.Path.{sym}
-use borrow.Author.Rules.{rules}
 use Rattle.show_text.proofs.line_of.Goals as goal
 
 pub returns : goal.returns

@@ -1,5 +1,4 @@
 use Rattle.show_text.specs.Forms.{form_at}
-use borrow.Author.Rules.{rules}
 use Rattle.show_text.proofs.push_form_at.Goals as goal
 
 pub returns-then-forms : goal.returns-then-forms

@@ -1,4 +1,3 @@
-use borrow.Author.Rules.{rules}
 use Rattle.show_text.proofs.push_question_at.Goals as goal
 
 pub returns : goal.returns

@@ -1,7 +1,6 @@
 use mathlib.Core.Path.{◌∙◌, ap}
 use Rattle.show_load.proofs.Refused.{refused_at}
 use Rattle.show_load.specs.declared.Loaded.TheVariants as L
-use borrow.Author.Rules.{rules}
 use Rattle.show_text.proofs.push_question_of.Goals as goal
 
 pub push_question_at-requires : goal.push_question_at-requires

@@ -1,4 +1,3 @@
-use borrow.Author.Rules.{rules}
 use Rattle.show_text.proofs.push_record.Goals as goal
 
 pub returns-in-NoMark : goal.returns-in-NoMark

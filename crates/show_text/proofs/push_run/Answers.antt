@@ -1,10 +1,7 @@
 use mathlib.Core.Path.{◌≡◌, refl}
-use Prim.Native.Nat.{◌≤◌, ◌-◌}
-use lib.ListN.{length, take}
+use Prim.Native.Nat.{◌-◌}
 use native.Mathlib.Omega.{arith}
 use borrow.Author.Rules.{rules}
-use Rattle.text_line.specs.Numbers.{hex_bytes}
-use Rattle.text_line.specs.Steps.{appended}
 use Rattle.text_line.proofs.Laws.{run_more}
 use Rattle.show_text.proofs.push_run.Goals as goal
 

@@ -1,11 +1,8 @@
-use mathlib.Core.Path.{◌≡◌, refl}
+use mathlib.Core.Path.{◌≡◌}
 use Prim.Native.Nat.{◌≤◌, ◌-◌}
 use lib.ListN.{length, take}
-use native.Mathlib.Omega.{arith}
-use borrow.Author.Rules.{rules}
 use Rattle.text_line.specs.Numbers.{hex_bytes}
 use Rattle.text_line.specs.Steps.{appended}
-use Rattle.text_line.proofs.Laws.{run_more}
 use Rattle.show_text.proofs.push_run.Given as goal
 
 abbrev pub invariant-loop-i : goal.invariant-loop-i

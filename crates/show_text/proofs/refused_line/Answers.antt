@@ -1,5 +1,4 @@
 use Rattle.show_text.proofs.Laws.{refused_made}
-use borrow.Author.Rules.{rules}
 use Rattle.show_text.proofs.refused_line.Goals as goal
 
 pub returns : goal.returns

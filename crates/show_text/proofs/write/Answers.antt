@@ -5,7 +5,6 @@ use Rattle.show_text.proofs.Shown.{text_is}
 use Rattle.show_text.proofs.Laws.{pick_most, refused_text_length, refused_holds}
 use Rattle.show_text.specs.Text.{listed, slice_after}
 use Rattle.show_load.proofs.Laws.{accepted_image}
-use borrow.Author.Rules.{rules}
 use Rattle.show_text.proofs.write.Goals as goal
 
 pub returns-then-out-most : goal.returns-then-out-most

@@ -1,9 +1,9 @@
 use Rattle.base_values.proofs.Fronts.{lent_length}
 use Rattle.show_load.proofs.Laws.{ran, within_seven}
-use Rattle.show_text.proofs.Laws.{Lines, lines_start, lines_in, text_short, text_in_line, lines_more}
+use Rattle.show_text.proofs.Laws.{lines_start, lines_in, text_short, text_in_line, lines_more}
 use borrow.Author.Rules.{rules}
 use native.Mathlib.Omega.{arith}
-use Prim.Native.Nat.{◌≤◌, ◌-◌}
+use Prim.Native.Nat.{◌-◌}
 use mathlib.Core.Path.{◌≡◌}
 use Rattle.show_text.proofs.write_lines.Goals as goal
 

@@ -1,6 +1,5 @@
 use Rattle.show_text.proofs.Shown.{first_fits, first_in, whole_is}
 use native.Mathlib.Omega.{arith}
-use borrow.Author.Rules.{rules}
 use Rattle.show_text.proofs.write_show.Goals as goal
 
 pub write_line-to-requires : goal.write_line-to-requires

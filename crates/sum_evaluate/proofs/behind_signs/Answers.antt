@@ -1,7 +1,7 @@
 use native.Mathlib.Omega.{arith}
 use Prim.Native.Nat.{◌-◌}
-use lib.ListN.{length, get_or}
-use Rattle.sum_evaluate.specs.Parts.{SignsTo, is_minus_sign}
+use lib.ListN.{get_or}
+use Rattle.sum_evaluate.specs.Parts.{is_minus_sign}
 use Rattle.sum_evaluate.proofs.Laws.{no_signs, one_sign, not_a_minus, ends_here, ends_at_end}
 use Rattle.sum_evaluate.proofs.behind_signs.Goals as goal
 

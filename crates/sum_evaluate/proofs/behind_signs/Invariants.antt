@@ -1,8 +1,6 @@
-use native.Mathlib.Omega.{arith}
 use Prim.Native.Nat.{◌-◌}
-use lib.ListN.{length, get_or}
-use Rattle.sum_evaluate.specs.Parts.{SignsTo, is_minus_sign}
-use Rattle.sum_evaluate.proofs.Laws.{no_signs, one_sign, not_a_minus, ends_here, ends_at_end}
+use lib.ListN.{length}
+use Rattle.sum_evaluate.specs.Parts.{SignsTo}
 use Rattle.sum_evaluate.proofs.behind_signs.Given as goal
 
 abbrev pub invariant-loop-i : goal.invariant-loop-i

@@ -1,4 +1,3 @@
-use borrow.Author.Rules.{rules}
 use mathlib.Core.Path.{sym, ◌∙◌}
 use Rattle.sum_evaluate.proofs.Answers.{with_value, too_deep, no_such_text}
 use Rattle.sum_evaluate.proofs.evaluate.Goals as goal

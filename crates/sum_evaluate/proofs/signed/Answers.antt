@@ -1,4 +1,3 @@
-use borrow.Author.Rules.{rules}
 use mathlib.Core.Path.{◌∙◌}
 use Rattle.sum_evaluate.proofs.Laws.{minus_fits, unsigned_value, signed_value}
 use Rattle.sum_evaluate.proofs.signed.Goals as goal

@@ -1,4 +1,3 @@
-use borrow.Author.Rules.{rules}
 use Rattle.sum_shape.proofs.in_digits.Goals as goal
 
 pub returns-in-Digit : goal.returns-in-Digit

@@ -1,5 +1,4 @@
 use native.Mathlib.Omega.{arith}
-use borrow.Author.Rules.{rules}
 use mathlib.Core.Path.{◌≡◌, refl, sym, ap, ◌∙◌}
 use mathlib.Core.List.{List}
 use Prim.Native.Nat.{ℕ, ◌+◌, ◌-◌, ◌≤◌, ◌<◌}
@@ -8,7 +7,7 @@ use Rattle.sum_shape.specs.declared.Pass.{Pass}
 use native.Mathlib.Numerals.{add-one}
 use lib.ListN.{length, drop, get_or, drop_of_length-le}
 use lib.Seq.{drop-cons}
-use Rattle.sum_shape.specs.Pass.{start_pass, kind_of, pass_next, pass_over, pass_end}
+use Rattle.sum_shape.specs.Pass.{kind_of, pass_next, pass_over, pass_end}
 use Rattle.sum_shape.proofs.Same.{same}
 use Rattle.sum_shape.proofs.Bytes.{by_depth}
 use Rattle.sum_shape.proofs.shape_of.Goals as goal

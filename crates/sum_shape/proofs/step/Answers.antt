@@ -1,4 +1,3 @@
-use borrow.Author.Rules.{rules}
 use Rattle.sum_shape.proofs.step.Goals as goal
 
 pub returns-in-Due : goal.returns-in-Due

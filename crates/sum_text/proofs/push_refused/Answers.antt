@@ -1,7 +1,6 @@
 use Rattle.text_line.proofs.Laws.{then}
 use mathlib.Core.List.{[], ◌∷◌, ◌++◌}
 use Rattle.text_line.specs.Numbers.{blank, line_feed, decimal}
-use borrow.Author.Rules.{rules}
 use Rattle.sum_text.proofs.push_refused.Goals as goal
 
 pub returns : goal.returns

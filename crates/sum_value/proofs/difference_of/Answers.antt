@@ -1,5 +1,4 @@
 use lib.IntN.{◌-ℤ◌}
-use borrow.Author.Rules.{rules}
 use Rattle.sum_value.proofs.Laws.{wide_cast, difference_fits, step_fits, step_kept}
 use Rattle.sum_value.proofs.difference_of.Goals as goal
 

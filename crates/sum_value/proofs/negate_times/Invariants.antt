@@ -1,10 +1,5 @@
-use native.Mathlib.Omega.{arith}
-use borrow.Author.Rules.{rules}
-use mathlib.Core.Path.{◌≡◌, refl, ◌∙◌}
-use Prim.Native.Nat.{ℕ, zero, suc, ◌-◌, ◌≤◌, ◌<◌}
-use native.Mathlib.Numerals.{sub-one}
-use Rattle.sum_spec.specs.declared.Value.{Value}
-use Rattle.sum_spec.specs.Sums.{negated}
+use mathlib.Core.Path.{◌≡◌}
+use Prim.Native.Nat.{◌-◌}
 use Rattle.sum_value.specs.Worth.{negations}
 use Rattle.sum_value.proofs.negate_times.Given as goal
 

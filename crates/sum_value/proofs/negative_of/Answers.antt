@@ -1,4 +1,3 @@
-use borrow.Author.Rules.{rules}
 use Rattle.sum_value.proofs.Laws.{wide_cast, negative_fits, negative_kept}
 use Rattle.sum_value.proofs.negative_of.Goals as goal
 

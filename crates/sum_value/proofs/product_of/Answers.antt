@@ -1,5 +1,4 @@
 use lib.IntN.{◌*ℤ◌}
-use borrow.Author.Rules.{rules}
 use Rattle.sum_value.proofs.Laws.{wide_cast, product_fits, step_fits, step_kept}
 use Rattle.sum_value.proofs.product_of.Goals as goal
 

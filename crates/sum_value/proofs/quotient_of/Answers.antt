@@ -1,4 +1,3 @@
-use borrow.Author.Rules.{rules}
 use lib.Signed.{quot_z}
 use mathlib.Core.Path.{◌∙◌}
 use Rattle.sum_value.proofs.Laws.{wide_cast, quotient_fits, step_fits, step_kept, not_zero, by_zero, by_other}

@@ -1,5 +1,4 @@
 use lib.IntN.{◌+ℤ◌}
-use borrow.Author.Rules.{rules}
 use Rattle.sum_value.proofs.Laws.{wide_cast, sum_fits, step_fits, step_kept}
 use Rattle.sum_value.proofs.sum_of.Goals as goal
 

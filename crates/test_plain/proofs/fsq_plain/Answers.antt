@@ -1,4 +1,3 @@
-use borrow.Author.Rules.{rules}
 use Rattle.test_plain.proofs.fsq_plain.Goals as goal
 
 pub returns : goal.returns

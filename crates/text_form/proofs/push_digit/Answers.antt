@@ -1,7 +1,6 @@
 use Rattle.text_line.proofs.Laws.{then}
 use mathlib.Core.List.{[], ◌∷◌}
 use Rattle.text_line.specs.Numbers.{blank, decimal}
-use borrow.Author.Rules.{rules}
 use Rattle.text_form.proofs.push_digit.Goals as goal
 
 pub returns-in-Is : goal.returns-in-Is

@@ -1,4 +1,3 @@
-use borrow.Author.Rules.{rules}
 use Rattle.text_form.proofs.push_ground.Goals as goal
 
 pub returns-in-Form : goal.returns-in-Form

@@ -1,4 +1,3 @@
-use borrow.Author.Rules.{rules}
 use Rattle.text_form.proofs.push_kind.Goals as goal
 
 pub returns-in-Imm : goal.returns-in-Imm

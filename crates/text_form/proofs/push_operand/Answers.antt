@@ -2,7 +2,6 @@ use Rattle.text_line.proofs.Laws.{then, byte}
 use mathlib.Core.List.{◌∷◌, ◌++◌}
 use Rattle.text_line.specs.Numbers.{blank}
 use Rattle.text_form.specs.Lines.{kind_name, size_name, operand_text}
-use borrow.Author.Rules.{rules}
 use Rattle.text_form.proofs.push_operand.Goals as goal
 
 pub returns : goal.returns

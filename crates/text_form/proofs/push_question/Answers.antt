@@ -2,7 +2,6 @@ use Rattle.text_line.proofs.Laws.{then}
 use mathlib.Core.List.{[], ◌∷◌, ◌++◌}
 use Rattle.text_line.specs.Numbers.{blank, line_feed, decimal}
 use Rattle.text_form.specs.Lines.{question_line}
-use borrow.Author.Rules.{rules}
 use Rattle.text_form.proofs.push_question.Goals as goal
 
 pub returns : goal.returns

@@ -1,4 +1,3 @@
-use borrow.Author.Rules.{rules}
 use Rattle.text_form.proofs.push_size.Goals as goal
 
 pub returns-in-Unspecified : goal.returns-in-Unspecified

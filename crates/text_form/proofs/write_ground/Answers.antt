@@ -2,7 +2,6 @@ use native.Mathlib.Omega.{arith}
 use borrow.Author.Tests.{le-leb, lt-leb}
 use Rattle.text_form.proofs.Laws.{ground_length, ground_holds}
 use Rattle.encode_form.specs.Ground.{ground}
-use borrow.Author.Rules.{rules}
 use Rattle.text_form.proofs.write_ground.Goals as goal
 
 pub returns-then-out-lt-MOST_LINE : goal.returns-then-out-lt-MOST_LINE

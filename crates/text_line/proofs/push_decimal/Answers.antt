@@ -2,7 +2,6 @@ use Rattle.text_line.proofs.Laws.{then}
 use Rattle.text_line.specs.Numbers.{digit_from, decimal}
 use mathlib.Core.List.{[], ◌∷◌, ◌++◌}
 use Prim.Native.Nat.{◌+◌, ◌%◌}
-use borrow.Author.Rules.{rules}
 use Rattle.text_line.proofs.push_decimal.Goals as goal
 
 pub returns : goal.returns

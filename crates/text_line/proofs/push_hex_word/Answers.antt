@@ -1,7 +1,6 @@
 use Rattle.text_line.proofs.Laws.{then}
 use Rattle.text_line.specs.Numbers.{hex_byte, hex_word}
 use Prim.Native.Nat.{◌/◌, ◌%◌}
-use borrow.Author.Rules.{rules}
 use Rattle.text_line.proofs.push_hex_word.Goals as goal
 
 pub returns : goal.returns

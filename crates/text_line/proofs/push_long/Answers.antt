@@ -1,7 +1,6 @@
 use Rattle.text_line.proofs.Laws.{then}
 use Rattle.text_line.specs.Numbers.{digit_from, decimal, long_decimal}
 use mathlib.Core.List.{◌++◌}
-use borrow.Author.Rules.{rules}
 use Rattle.text_line.proofs.push_long.Goals as goal
 
 pub returns : goal.returns

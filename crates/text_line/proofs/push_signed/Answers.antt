@@ -3,7 +3,6 @@ use Rattle.text_line.specs.Numbers.{sign, decimal}
 use lib.IntN.{nat_abs}
 use mir.Syntax.{w32}
 use mir.ValLaws.{to_z-of_z}
-use borrow.Author.Rules.{rules}
 use Rattle.text_line.proofs.push_signed.Goals as goal
 
 pub returns : goal.returns

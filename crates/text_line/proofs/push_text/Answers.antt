@@ -1,9 +1,7 @@
-use mathlib.Core.Path.{◌≡◌, refl}
-use Prim.Native.Nat.{◌≤◌, ◌-◌}
-use lib.ListN.{length, take}
+use mathlib.Core.Path.{refl}
+use Prim.Native.Nat.{◌-◌}
 use borrow.Author.Rules.{rules}
 use lib.Seq.{take_all}
-use Rattle.text_line.specs.Steps.{appended}
 use Rattle.text_line.proofs.Laws.{text_more}
 use Rattle.text_line.proofs.push_text.Goals as goal
 

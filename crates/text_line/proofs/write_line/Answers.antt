@@ -1,9 +1,8 @@
 use mathlib.Core.Path.{◌≡◌, refl}
-use Prim.Native.Nat.{◌≤◌, ◌-◌}
-use lib.ListN.{length, take, drop, length-set}
+use Prim.Native.Nat.{◌-◌}
+use lib.ListN.{length-set}
 use native.Mathlib.Omega.{arith}
 use borrow.Author.Rules.{rules}
-use mathlib.Core.List.{◌++◌}
 use native.Mathlib.Numerals.{add-one}
 use Rattle.base_values.proofs.Copies.{copied_more}
 use Rattle.text_line.proofs.write_line.Goals as goal

@@ -1,4 +1,3 @@
-use Rattle.std.proofs.Common.{rules}
 use Rattle.foreign.proofs.check.fsq_check.Goals as goal
 
 pub returns : goal.returns

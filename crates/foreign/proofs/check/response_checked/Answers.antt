@@ -1,4 +1,3 @@
-use Rattle.std.proofs.Common.{rules}
 use Rattle.foreign.proofs.check.response_checked.Goals as goal
 
 -- look: -- src/check.rt:34:24

@@ -1,4 +1,3 @@
-use Rattle.std.proofs.Common.{rules}
 use Rattle.foreign.proofs.convert.fsq_convert.Goals as goal
 
 pub returns : goal.returns

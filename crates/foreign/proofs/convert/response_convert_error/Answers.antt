@@ -1,4 +1,3 @@
-use Rattle.std.proofs.Common.{rules}
 use Rattle.foreign.proofs.convert.response_convert_error.Goals as goal
 
 pub returns-in-Load : goal.returns-in-Load

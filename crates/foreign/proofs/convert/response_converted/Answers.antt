@@ -1,4 +1,3 @@
-use Rattle.std.proofs.Common.{rules}
 use Rattle.foreign.proofs.convert.response_converted.Goals as goal
 
 pub returns-in-File : goal.returns-in-File

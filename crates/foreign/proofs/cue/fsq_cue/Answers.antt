@@ -1,4 +1,3 @@
-use Rattle.std.proofs.Common.{rules}
 use Rattle.foreign.proofs.cue.fsq_cue.Goals as goal
 
 pub returns : goal.returns

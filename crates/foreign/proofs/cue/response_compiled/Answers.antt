@@ -1,4 +1,3 @@
-use Rattle.std.proofs.Common.{rules}
 use Rattle.foreign.proofs.cue.response_compiled.Goals as goal
 
 pub returns-in-Length : goal.returns-in-Length

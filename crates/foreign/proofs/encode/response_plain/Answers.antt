@@ -1,6 +1,6 @@
 use Rattle.foreign.proofs.Laws.{is_record_lem, not_record}
 use Rattle.foreign.specs.EncodeRecord.{record_of, response_of, left_by}
-use Rattle.std.proofs.Common.{sym, ◌∙◌, rules}
+use Rattle.std.proofs.Common.{sym, ◌∙◌}
 use Rattle.foreign.proofs.encode.response_plain.Goals as goal
 
 pub instruction_at-insn-requires : goal.instruction_at-insn-requires

@@ -1,5 +1,3 @@
-use Rattle.std.proofs.Common.{◌≡◌, w32, to_z, of_z, rules}
-use mir.ValLaws.{to_z-of_z}
 use Rattle.foreign.proofs.evaluate.response_answer.Goals as goal
 
 pub returns-in-NoText : goal.returns-in-NoText

@@ -1,4 +1,3 @@
-use Rattle.std.proofs.Common.{rules}
 use Rattle.foreign.proofs.form.fsq_form.Goals as goal
 
 pub returns : goal.returns

@@ -1,4 +1,3 @@
-use Rattle.std.proofs.Common.{rules}
 use Rattle.foreign.proofs.list.fsq_list.Goals as goal
 
 pub returns : goal.returns

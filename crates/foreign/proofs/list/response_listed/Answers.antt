@@ -1,4 +1,3 @@
-use Rattle.std.proofs.Common.{rules}
 use Rattle.foreign.proofs.list.response_listed.Goals as goal
 
 pub returns-in-Count : goal.returns-in-Count

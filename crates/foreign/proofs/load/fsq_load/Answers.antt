@@ -1,4 +1,3 @@
-use Rattle.std.proofs.Common.{rules}
 use Rattle.foreign.proofs.load.fsq_load.Goals as goal
 
 pub returns : goal.returns

@@ -1,4 +1,3 @@
-use Rattle.std.proofs.Common.{rules}
 use Rattle.foreign.proofs.load.response_load_error.Goals as goal
 
 pub returns-in-NoMark : goal.returns-in-NoMark

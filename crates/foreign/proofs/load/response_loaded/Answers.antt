@@ -1,4 +1,3 @@
-use Rattle.std.proofs.Common.{rules}
 use Rattle.foreign.proofs.load.response_loaded.Goals as goal
 
 pub returns-in-Image : goal.returns-in-Image

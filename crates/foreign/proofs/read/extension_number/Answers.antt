@@ -1,4 +1,3 @@
-use Rattle.std.proofs.Common.{rules}
 use Rattle.foreign.proofs.read.extension_number.Goals as goal
 
 pub returns-in-Digit : goal.returns-in-Digit

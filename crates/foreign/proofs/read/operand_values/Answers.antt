@@ -1,5 +1,4 @@
 use Rattle.foreign.specs.ReadBytes.{operand_values}
-use Rattle.std.proofs.Common.{rules}
 use Rattle.foreign.proofs.read.operand_values.Goals as goal
 
 pub returns : goal.returns

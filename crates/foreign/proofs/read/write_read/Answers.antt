@@ -1,5 +1,4 @@
 use Rattle.foreign_report.proofs.Laws.{six}
-use Rattle.std.proofs.Common.{rules}
 use Rattle.foreign.proofs.read.write_read.Goals as goal
 
 pub returns : goal.returns

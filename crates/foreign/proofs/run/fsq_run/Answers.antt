@@ -1,4 +1,4 @@
-use Rattle.std.proofs.Common.{sym, ◌∙◌, rules}
+use Rattle.std.proofs.Common.{sym, ◌∙◌}
 use Rattle.foreign.proofs.run.fsq_run.Goals as goal
 
 pub returns-in-Halted : goal.returns-in-Halted

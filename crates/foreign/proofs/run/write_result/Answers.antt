@@ -1,6 +1,5 @@
 use Rattle.foreign.proofs.Laws.{result_written}
 use borrow.Author.Tests.{lt-leb}
-use Rattle.std.proofs.Common.{rules}
 use Rattle.foreign.proofs.run.write_result.Goals as goal
 
 pub returns-then-out-lt16 : goal.returns-then-out-lt16

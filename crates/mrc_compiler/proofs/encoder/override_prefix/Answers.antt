@@ -1,4 +1,3 @@
-use borrow.Author.Rules.{rules}
 use Rattle.mrc_compiler.proofs.encoder.override_prefix.Goals as goal
 
 pub returns-in-Some : goal.returns-in-Some

@@ -1,4 +1,3 @@
-use borrow.Author.Rules.{rules}
 use native.Mathlib.Omega.{arith}
 use mir.Syntax.{w8}
 use Rattle.mrc_compiler.specs.declared.encoder.RequiredSignedByte.TheVariants as R

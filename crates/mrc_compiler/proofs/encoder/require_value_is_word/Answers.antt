@@ -1,4 +1,3 @@
-use borrow.Author.Rules.{rules}
 use native.Mathlib.Omega.{arith}
 use mir.Syntax.{w16}
 use Rattle.mrc_compiler.specs.declared.encoder.RequiredWord.TheVariants as R

@@ -1,6 +1,5 @@
 use native.Mathlib.Omega.{arith}
 use Rattle.mrc_compiler.proofs.Laws.{segment_below}
-use borrow.Author.Rules.{rules}
 use Rattle.mrc_compiler.proofs.encoder.segment_prefix_for.Goals as goal
 
 pub overflow_mul-result : goal.overflow_mul-result

@@ -1,4 +1,3 @@
-use borrow.Author.Rules.{rules}
 use Rattle.x86.proofs.operands.type_of.Goals as goal
 
 pub returns-in-None : goal.returns-in-None

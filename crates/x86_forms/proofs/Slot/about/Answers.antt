@@ -1,4 +1,3 @@
-use borrow.Author.Rules.{rules}
 use Rattle.x86_forms.proofs.Slot.about.Goals as goal
 
 pub returns-in-Rm : goal.returns-in-Rm

@@ -1,4 +1,3 @@
-use borrow.Author.Rules.{rules}
 use Rattle.mrc_compiler.proofs.encoder.EncodeError.span.Goals as goal
 
 pub returns-in-InvalidOperands : goal.returns-in-InvalidOperands

@@ -1,4 +1,3 @@
-use borrow.Author.Rules.{rules}
 use Rattle.mrc_compiler.proofs.encoder.InstructionData.none.Goals as goal
 
 pub returns : goal.returns

@@ -1,4 +1,3 @@
-use borrow.Author.Rules.{rules}
 use Rattle.mrc_compiler.proofs.encoder.OperandData.is_direct.Goals as goal
 
 pub returns-in-Imm : goal.returns-in-Imm

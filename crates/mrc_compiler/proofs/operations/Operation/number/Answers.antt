@@ -1,4 +1,3 @@
-use borrow.Author.Rules.{rules}
 use Rattle.mrc_compiler.specs.Operations.{number_of}
 use Rattle.mrc_compiler.proofs.operations.Operation.number.Goals as goal
 

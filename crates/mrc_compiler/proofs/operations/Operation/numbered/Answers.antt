@@ -1,4 +1,3 @@
-use borrow.Author.Rules.{rules}
 use borrow.Author.Tests.{lt-ltb, le-ltb}
 use Rattle.mrc_compiler.proofs.Numbers.{count}
 use Rattle.mrc_compiler.proofs.operations.Operation.numbered.Goals as goal
