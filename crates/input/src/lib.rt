@@ -47,6 +47,7 @@ pub fn called_alone(errors: &impl Print, words: usize, usage: &[u8]) -> bool
 }
 
 // Reads until buf is full or the input ends, and answers how many bytes. Where it is known what the reader gives, they are that, from its front, and all of it where buf has room left.
+// A failed read is answered as the reader's own error, and leaves buf its length; no other error comes.
 pub fn read_input<R: Read>(reader: &mut R, buf: &mut [u8]) -> io::Result<usize>
     ensures bound { ReadsAtMost result buf.new }
     ensures len_unchanged { length buf.new ≡ length buf.old }
