@@ -2,9 +2,6 @@ use mir.ValLaws.{to_z-of_z}
 use mir.Syntax.{w32}
 use Rattle.encode_plans.proofs.value_is_one.Goals as goal
 
--- look: -- src/lib.rt:112:1
--- look: -- src/lib.rt:112:1
-
 pub returns-then-value-ge1 : goal.returns-then-value-ge1
 returns-then-value-ge1 c = let e = to_z-of_z w32 c.args.value c.ranges.value in simp (e, rw e at c.if-value-ge1.true)
 

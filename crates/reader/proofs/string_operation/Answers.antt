@@ -6,8 +6,6 @@ use Rattle.mrc_compiler.specs.Operations.{operations}
 use Rattle.reader.proofs.Laws.{string_range}
 use Rattle.reader.proofs.string_operation.Goals as goal
 
--- look: -- what no other arm takes is AF
-
 none_of_four : (c : ℕ) → 0xA4 ≤ c → c < 0xA8 → (c ≡ 0xA4 → ⊥) → (c ≡ 0xA5 → ⊥) → (c ≡ 0xA6 → ⊥) → (c ≡ 0xA7 → ⊥) → c ≡ 0xAF
 none_of_four c l h p q r s = omega arith
 
@@ -50,6 +48,7 @@ pub returns-in-174 : goal.returns-in-174
 unfolding operations
 returns-in-174 c = rw c.in-174.is refl
 
+-- what no other arm takes is AF
 pub returns-in_default : goal.returns-in_default
 unfolding operations
 returns-in_default c =

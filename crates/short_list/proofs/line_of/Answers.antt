@@ -6,8 +6,7 @@ use Rattle.text_line.specs.Steps.{empty_line}
 use Rattle.text_line.proofs.Laws.{then}
 use Rattle.short_list.proofs.line_of.Goals as goal
 
--- look: -- a byte or two, and the line feed
-
+-- a byte or two, and the line feed
 pub returns-then-k-lt256 : goal.returns-then-k-lt256
 unfolding hex_byte
 returns-then-k-lt256 c =

@@ -3,9 +3,7 @@ use Rattle.lister.proofs.Accepted.{short}
 use Rattle.shortest_encoder.proofs.Accepted.{refuses, own_run, stays, not_nothing_read, not_more_read, finds}
 use Rattle.shortest_encoder.proofs.shortest_run.Goals as goal
 
--- look: -- the first bytes tell
--- look: -- an accepted record's own string reads as its instruction
-
+-- the first bytes tell
 pub returns-then-is_first_run : goal.returns-then-is_first_run
 returns-then-is_first_run c = stays c.args.insn c.args.offset c.ranges.offset.fits _ c.run_of-done.ensures c.in-None.is (sym c.is_first_run.ensures ∙ c.if-is_first_run.true)
 
@@ -21,6 +19,7 @@ returns-in-Because c = refuses c.args.insn c.args.offset c.ranges.offset.fits _ 
 pub returns-in-Whole : goal.returns-in-Whole
 returns-in-Whole c = finds c.args.insn c.args.offset c.ranges.offset.fits _ c.run_of-done.ensures c.in-None.is _ c.read_run.ensures _ _ _ c.in-Whole.is c.shortest_of.ensures
 
+-- an accepted record's own string reads as its instruction
 pub returns-in-Nothing : goal.returns-in-Nothing
 returns-in-Nothing c = absurd (not_nothing_read c.args.insn c.args.offset c.ranges.offset.fits _ c.run_of-done.ensures c.in-None.is _ c.read_run.ensures c.in-Nothing.is)
 

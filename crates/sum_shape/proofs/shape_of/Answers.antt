@@ -12,8 +12,7 @@ use Rattle.sum_shape.proofs.Same.{same}
 use Rattle.sum_shape.proofs.Bytes.{by_depth}
 use Rattle.sum_shape.proofs.shape_of.Goals as goal
 
--- look: -- one byte more
-
+-- one byte more
 one_more : (text : List ℕ) (i : ℕ) (pass r whole : Pass) → i < length text → r ≡ pass_next pass (kind_of (token_of (get_or text i 0))) → pass.depth ≤ i
     → pass_over pass (drop i text) ≡ whole → (i + 1 ≤ length text) × (r.depth ≤ i + 1) × (pass_over r (drop (i + 1) text) ≡ whole)
 one_more text i pass r whole l e d o =

@@ -1,19 +1,5 @@
 use Rattle.foreign.proofs.check.response_checked.Goals as goal
 
--- look: -- src/check.rt:34:24
--- look: -- src/check.rt:34:30
--- look: -- src/check.rt:35:25
--- look: -- src/check.rt:35:68
--- look: -- src/check.rt:35:42
--- look: -- src/check.rt:36:26
--- look: -- src/check.rt:36:40
--- look: -- src/check.rt:37:26
--- look: -- src/check.rt:37:36
--- look: -- src/check.rt:30:1
--- look: -- src/check.rt:30:1
--- look: -- src/check.rt:30:1
--- look: -- src/check.rt:30:1
-
 pub returns-in-Lands : goal.returns-in-Lands
 returns-in-Lands c = rw c.in-Lands.is c.response_length.ensures
 

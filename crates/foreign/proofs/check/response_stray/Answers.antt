@@ -2,9 +2,5 @@ use Rattle.std.proofs.Common.{refl, w32, rules}
 use mir.ValLaws.{to_z_pos}
 use Rattle.foreign.proofs.check.response_stray.Goals as goal
 
--- look: -- src/check.rt:22:16
--- look: -- src/check.rt:25:17
--- look: -- src/check.rt:15:1
-
 pub returns : goal.returns
 returns c = rw (to_z_pos w32 c.args.target (search rules)) refl

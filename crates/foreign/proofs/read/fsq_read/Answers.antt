@@ -2,9 +2,7 @@ use Rattle.std.proofs.Common.{sym, ◌∙◌, le-leb}
 use borrow.Author.Tests.{lt-leb}
 use Rattle.foreign.proofs.read.fsq_read.Goals as goal
 
--- look: -- by the words, with and without room for them
--- look: -- by the reader
-
+-- by the words, with and without room for them
 pub returns-then-out-lt24 : goal.returns-then-out-lt24
 returns-then-out-lt24 c =
     let w = c.words_at-words.ensures c.if-words-gt0.true in
@@ -15,6 +13,7 @@ returns-then-words-gt0 c =
     let w = c.words_at-words.ensures c.if-words-gt0.true in
     record { value = rw w.is; out_after = rw (w.is, le-leb _ _ c.if-out-lt24.false) (rw (w.head, w.extension, w.a, w.b, w.c, w.d) at c.write_words.ensures) }
 
+-- by the reader
 pub returns-then-out-lt24-2 : goal.returns-then-out-lt24-2
 returns-then-out-lt24-2 c =
     let e = sym c.read-read.ensures ∙ c.in-Whole.is in
