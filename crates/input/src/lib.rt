@@ -26,6 +26,7 @@ impl fmt::Display for Failure {
 }
 
 // With how many words the program was started, its own name among them.
+// No clause says which number: std says of no environment what it holds.
 pub fn word_count(rt: &impl Env) -> usize {
     for i in 0..usize::MAX {
         if let Err(FillError::NotPresent) = rt.arg(i, &mut []) {
