@@ -1,14 +1,10 @@
 -- What the builders of 000 make (REFERENCE 2).
 -- Definitions only.
-use Rattle.std.specs.Prelude.{ℕ, ◌+◌, ◌*◌, Bool, true, false, [], ◌∷◌, eqb, ℤ, pos, negsuc}
+use Rattle.std.specs.Prelude.{ℕ, ◌+◌, ◌*◌, Bool, true, false, [], ◌∷◌, eqb, ℤ, pos, negsuc, None, Option, Some}
 use Rattle.mrc_compiler.specs.declared.ast.Span.{Span}
 use Rattle.mrc_compiler.specs.declared.ast.Segment.{Segment}
 use Rattle.mrc_compiler.specs.declared.ast.DataSize.{DataSize}
 use Rattle.mrc_compiler.specs.declared.ast.DataSize.TheVariants as D
-use Rattle.mrc_compiler.specs.declared.ast.OptionDataSize.{OptionDataSize}
-use Rattle.mrc_compiler.specs.declared.ast.OptionDataSize.TheVariants as OD
-use Rattle.mrc_compiler.specs.declared.ast.OptionSegment.{OptionSegment}
-use Rattle.mrc_compiler.specs.declared.ast.OptionSegment.TheVariants as OG
 use Rattle.mrc_compiler.specs.declared.operations.Operation.{Operation}
 use Rattle.mrc_compiler.specs.declared.encoder.OperandKind.{OperandKind}
 use Rattle.mrc_compiler.specs.declared.encoder.OperandKind.TheVariants as K
@@ -31,17 +27,17 @@ is_specified size = isnt (is_unspecified size)
 abbrev pub prefix_for : Segment → ℕ
 prefix_for seg = 0x26 + segment seg * 8
 
-abbrev pub prefix_or_0 : OptionSegment → ℕ
-prefix_or_0 OG.None = 0
-prefix_or_0 (OG.Some seg) = prefix_for seg
+abbrev pub prefix_or_0 : Option Segment → ℕ
+prefix_or_0 None = 0
+prefix_or_0 (Some seg) = prefix_for seg
 
 abbrev pub size_from_some : DataSize → OperandSize
 size_from_some D.Byte = S.Byte
 size_from_some D.Word = S.Word
 
-abbrev pub size_from : OptionDataSize → OperandSize
-size_from OD.None = S.Unspecified
-size_from (OD.Some size) = size_from_some size
+abbrev pub size_from : Option DataSize → OperandSize
+size_from None = S.Unspecified
+size_from (Some size) = size_from_some size
 
 -- ---- operands
 abbrev pub immediate_operand : Span → ℤ → OperandData
@@ -53,7 +49,7 @@ immediate_operand span value = record {
   imm = value;
   displacement = pos 0;
   displacement_size = S.Unspecified;
-  jmp_kind = J.None;
+  jmp_kind = None;
   mode = 0;
   rm = 0;
 }
@@ -67,7 +63,7 @@ far_operand span offset seg = record {
   imm = offset;
   displacement = seg;
   displacement_size = S.Unspecified;
-  jmp_kind = J.Far;
+  jmp_kind = (Some J.Far);
   mode = 0;
   rm = 0;
 }
@@ -82,7 +78,7 @@ in_register span kind size n = record {
   imm = pos 0;
   displacement = pos 0;
   displacement_size = S.Unspecified;
-  jmp_kind = J.None;
+  jmp_kind = None;
   mode = 3;
   rm = n;
 }
@@ -102,16 +98,16 @@ in_memory span size prefix mode rm displacement length = record {
   imm = pos 0;
   displacement = displacement;
   displacement_size = length;
-  jmp_kind = J.None;
+  jmp_kind = None;
   mode = mode;
   rm = rm;
 }
 
-abbrev pub direct_operand : Span → ℤ → OptionDataSize → OptionSegment → OperandData
+abbrev pub direct_operand : Span → ℤ → Option DataSize → Option Segment → OperandData
 direct_operand span address size seg = in_memory span (size_from size) (prefix_or_0 seg) 0 6 address S.Word
 
 -- the shortest displacement that holds the value; BP alone has none of length 0
-abbrev pub indirect_operand : Span → ℕ → ℤ → OptionDataSize → OptionSegment → OperandData
+abbrev pub indirect_operand : Span → ℕ → ℤ → Option DataSize → Option Segment → OperandData
 indirect_operand span rm d size seg =
     pick (both (within (pos 0) (pos 0) d) (isnt (eqb rm 6)))
     (in_memory span (size_from size) (prefix_or_0 seg) 0 rm (pos 0) S.Unspecified)

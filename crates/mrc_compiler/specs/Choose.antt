@@ -1,6 +1,6 @@
 -- Choices by a test and by the port's enums, as functions.
 -- Definitions only.
-use Rattle.std.specs.Prelude.{Bool, true, false}
+use Rattle.std.specs.Prelude.{Bool, true, false, None, Option, Some}
 use Rattle.mrc_compiler.specs.declared.encoder.OperandKind.{OperandKind}
 use Rattle.mrc_compiler.specs.declared.encoder.OperandKind.TheVariants as K
 use Rattle.mrc_compiler.specs.declared.encoder.OperandSize.{OperandSize}
@@ -39,8 +39,8 @@ by_kind K.Seg i r s m = s
 by_kind K.Mem i r s m = m
 
 -- by the jump kind: none, far, near, short
-abbrev pub by_jump : {A : Type 0} → JumpKind → A → A → A → A → A
-by_jump J.None n f r s = n
-by_jump J.Far n f r s = f
-by_jump J.Near n f r s = r
-by_jump J.Short n f r s = s
+abbrev pub by_jump : {A : Type 0} → Option JumpKind → A → A → A → A → A
+by_jump None n f r s = n
+by_jump (Some J.Far) n f r s = f
+by_jump (Some J.Near) n f r s = r
+by_jump (Some J.Short) n f r s = s

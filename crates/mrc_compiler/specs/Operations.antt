@@ -1,10 +1,9 @@
 -- The operations and their numbers: the place, from 0, in 002 (REFERENCE 2).
 -- Definitions only.
-use Rattle.std.specs.Prelude.{ℕ, Bool, false, List, [], ◌∷◌, eqb, ltb, length, get_or}
+use Rattle.std.specs.Prelude.{◌≡◌, ℕ, Bool, false, List, [], ◌∷◌, eqb, ltb, length, get_or, None, Option, Some, Result, MatchResult}
 use Rattle.mrc_compiler.specs.declared.operations.Operation.{Operation}
 use Rattle.mrc_compiler.specs.declared.operations.Operation.TheVariants as Op
-use Rattle.mrc_compiler.specs.declared.operations.OptionOperation.{OptionOperation}
-use Rattle.mrc_compiler.specs.declared.operations.OptionOperation.TheVariants as O
+use Rattle.mrc_compiler.specs.declared.operations.UnknownOperation.{UnknownOperation}
 use Rattle.mrc_compiler.specs.Choose.{pick, either}
 
 unfoldable pub number_of : Operation → ℕ
@@ -138,5 +137,9 @@ operations =
     ∷ Op.STD ∷ Op.CLI ∷ Op.STI ∷ Op.HLT ∷ Op.WAIT ∷ Op.ESC ∷ Op.LOCK ∷ Op.NOP ∷ Op.SALC ∷ []
 
 -- the operation of a number
-abbrev pub operation_numbered : ℕ → OptionOperation
-operation_numbered n = pick (ltb n (length operations)) (O.Some (get_or operations n Op.MOV)) O.None
+abbrev pub operation_numbered : ℕ → Option Operation
+operation_numbered n = pick (ltb n (length operations)) (Some (get_or operations n Op.MOV)) None
+
+-- the result is the operation of the number, or an error with a number that no operation has
+abbrev pub Numbers : ℕ → Result Operation UnknownOperation → Type 0
+Numbers n r = MatchResult r (λ operation. operation_numbered n ≡ Some operation) (λ e. (e.0 ≡ n) × (operation_numbered n ≡ None))

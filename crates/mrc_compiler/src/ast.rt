@@ -3,13 +3,13 @@ ghost use Rattle.std.specs.Prelude.{◌≡◌};
 ghost use Rattle.mrc_compiler.specs.Registers.{byte_register, word_register, register, data_size_of, segment, indirect_encoding};
 
 // The two ends of a piece of the source text.
-#[derive(Clone, Copy)]
+#[derive(Clone, Copy, Debug, PartialEq, Eq)]
 pub struct Span {
     pub start: u32,
     pub end: u32,
 }
 
-#[derive(Clone, Copy)]
+#[derive(Clone, Copy, Debug, PartialEq, Eq)]
 pub enum ByteRegister {
     Al,
     Cl,
@@ -26,29 +26,20 @@ impl ByteRegister {
     pub fn encoding(self) -> u8
         ensures { result ≡ byte_register self }
     {
-        match self {
-            ByteRegister::Al => 0,
-            ByteRegister::Cl => 1,
-            ByteRegister::Dl => 2,
-            ByteRegister::Bl => 3,
-            ByteRegister::Ah => 4,
-            ByteRegister::Ch => 5,
-            ByteRegister::Dh => 6,
-            ByteRegister::Bh => 7,
-        }
+        self as u8
     }
 }
 
-#[derive(Clone, Copy)]
+#[derive(Clone, Copy, Debug, PartialEq, Eq)]
 pub enum WordRegister {
-    Ax,
-    Cx,
-    Dx,
-    Bx,
-    Sp,
-    Bp,
-    Si,
-    Di,
+    Ax, // accumulator
+    Cx, // count
+    Dx, // data
+    Bx, // base
+    Sp, // stack pointer
+    Bp, // base pointer
+    Si, // source index
+    Di, // destination index
 }
 
 impl WordRegister {
@@ -56,20 +47,11 @@ impl WordRegister {
     pub fn encoding(self) -> u8
         ensures { result ≡ word_register self }
     {
-        match self {
-            WordRegister::Ax => 0,
-            WordRegister::Cx => 1,
-            WordRegister::Dx => 2,
-            WordRegister::Bx => 3,
-            WordRegister::Sp => 4,
-            WordRegister::Bp => 5,
-            WordRegister::Si => 6,
-            WordRegister::Di => 7,
-        }
+        self as u8
     }
 }
 
-#[derive(Clone, Copy)]
+#[derive(Clone, Copy, Debug, PartialEq, Eq)]
 pub enum Register {
     Byte(ByteRegister),
     Word(WordRegister),
@@ -97,7 +79,7 @@ impl Register {
     }
 }
 
-#[derive(Clone, Copy)]
+#[derive(Clone, Copy, Debug, PartialEq, Eq)]
 pub enum Segment {
     ES,
     CS,
@@ -110,31 +92,26 @@ impl Segment {
     pub fn encoding(self) -> u8
         ensures { result ≡ segment self }
     {
-        match self {
-            Segment::ES => 0,
-            Segment::CS => 1,
-            Segment::SS => 2,
-            Segment::DS => 3,
-        }
+        self as u8
     }
 }
 
-#[derive(Clone, Copy)]
+#[derive(Clone, Copy, Debug, PartialEq, Eq)]
 pub enum DataSize {
     Byte,
     Word,
 }
 
-#[derive(Clone, Copy)]
+#[derive(Clone, Copy, Debug, PartialEq, Eq)]
 pub enum IndirectEncoding {
-    BxSi,
-    BxDi,
-    BpSi,
-    BpDi,
-    Si,
-    Di,
-    Bp,
-    Bx,
+    BxSi, // [BX + SI]
+    BxDi, // [BX + DI]
+    BpSi, // [BP + SI]
+    BpDi, // [BP + DI]
+    Si, // [SI]
+    Di, // [DI]
+    Bp, // [BP]
+    Bx, // [BX]
 }
 
 impl IndirectEncoding {
@@ -142,28 +119,6 @@ impl IndirectEncoding {
     pub fn encoding(self) -> u8
         ensures { result ≡ indirect_encoding self }
     {
-        match self {
-            IndirectEncoding::BxSi => 0,
-            IndirectEncoding::BxDi => 1,
-            IndirectEncoding::BpSi => 2,
-            IndirectEncoding::BpDi => 3,
-            IndirectEncoding::Si => 4,
-            IndirectEncoding::Di => 5,
-            IndirectEncoding::Bp => 6,
-            IndirectEncoding::Bx => 7,
-        }
+        self as u8
     }
-}
-
-// The Rust's Option<DataSize> and Option<Segment>.
-#[derive(Clone, Copy)]
-pub enum OptionDataSize {
-    None,
-    Some(DataSize),
-}
-
-#[derive(Clone, Copy)]
-pub enum OptionSegment {
-    None,
-    Some(Segment),
 }

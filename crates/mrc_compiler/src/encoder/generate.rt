@@ -3,7 +3,7 @@ pub const FIRST_OPER_DST: u8 = 0;
 
 pub const FIRST_OPER_SRC: u8 = 1;
 
-#[derive(Clone, Copy)]
+#[derive(Clone, Copy, Debug, PartialEq, Eq)]
 pub enum Code {
     // Emits the given byte.
     Byte(u8),
@@ -48,16 +48,15 @@ pub enum Code {
     FarWords(u8),
 }
 
-// One or two codes: &[Code] of the Rust. Where there is one, the second is a copy that nobody reads.
-#[derive(Clone, Copy)]
+// One or two codes: &[Code] of the Rust.
+#[derive(Clone, Copy, Debug, PartialEq, Eq)]
 pub struct Codes {
     pub first: Code,
-    pub second: Code,
-    pub count: u8,
+    pub second: Option<Code>,
 }
 
 // Why a group turns a record away before a byte is emitted.
-#[derive(Clone, Copy)]
+#[derive(Clone, Copy, Debug, PartialEq, Eq)]
 pub enum Why {
     InvalidOperands,
     OperandSizeNotSpecified,
@@ -70,15 +69,63 @@ pub enum Why {
 }
 
 // Whose span is reported.
-#[derive(Clone, Copy)]
+#[derive(Clone, Copy, Debug, PartialEq, Eq)]
 pub enum At {
     Operands,
     First,
 }
 
-// What a group answers: the codes to emit, or the refusal. In 000 each group calls emit_codes itself.
-#[derive(Clone, Copy)]
-pub enum Plan {
-    Emit(Codes),
-    Refused(Why, At),
+// What a group answers for a record that has no form; for another the form, whose codes are emitted. In 000 each group calls emit_codes itself.
+#[derive(Clone, Copy, Debug, PartialEq, Eq)]
+pub struct NoForm {
+    pub why: Why,
+    pub at: At,
+}
+
+impl NoForm {
+    // 1, at the instruction and at the first operand.
+    pub const INVALID_OPERANDS: NoForm = NoForm {
+        why: Why::InvalidOperands,
+        at: At::Operands,
+    };
+
+    pub const INVALID_FIRST: NoForm = NoForm {
+        why: Why::InvalidOperands,
+        at: At::First,
+    };
+
+    // 2, at the instruction and at the first operand.
+    pub const SIZE_NOT_SPECIFIED: NoForm = NoForm {
+        why: Why::OperandSizeNotSpecified,
+        at: At::Operands,
+    };
+
+    pub const SIZE_NOT_SPECIFIED_FIRST: NoForm = NoForm {
+        why: Why::OperandSizeNotSpecified,
+        at: At::First,
+    };
+
+    // 3.
+    pub const SIZES_DO_NOT_MATCH: NoForm = NoForm {
+        why: Why::OperandSizesDoNotMatch,
+        at: At::Operands,
+    };
+
+    // 4 at the first operand.
+    pub const INVALID_SIZE: NoForm = NoForm {
+        why: Why::InvalidOperandSize,
+        at: At::First,
+    };
+
+    // 5: the immediate of JMP is no word.
+    pub const TARGET_OUT_OF_RANGE: NoForm = NoForm {
+        why: Why::TargetOutOfRange,
+        at: At::First,
+    };
+
+    // 7: INT1 and ESC, where 000 reaches todo!.
+    pub const NOT_SUPPORTED: NoForm = NoForm {
+        why: Why::NotSupported,
+        at: At::Operands,
+    };
 }

@@ -1,114 +1,171 @@
 // The data of 000: operands and instructions with their builders, the ranges of values, and the refusals.
-ghost use Rattle.std.specs.Prelude.{◌≡◌, pos, negsuc};
-ghost use Rattle.mrc_compiler.specs.Values.{within};
-ghost use Rattle.mrc_compiler.specs.Required.{required_byte, required_signed_byte, required_word, required_signed_word};
+ghost use Rattle.std.specs.Prelude.{◌≡◌, ℤ, pos, negsuc, true};
+ghost use Rattle.mrc_compiler.specs.Values.{within, mod_z};
+ghost use Rattle.mrc_compiler.specs.Required.{required, required_byte, required_signed_byte, required_word, required_signed_word};
 ghost use Rattle.mrc_compiler.specs.Refusals.{span_of};
 ghost use Rattle.mrc_compiler.specs.Builders.{is_specified, is_unspecified, prefix_for, prefix_or_0, size_from, immediate_operand, register_operand, segment_operand, direct_operand, indirect_operand, far_operand, is_direct, is_direct_address, no_operands, one_operand, two_operands, with_repeat};
 
 pub mod generate;
 
-use crate::ast::{DataSize, OptionDataSize, OptionSegment, Segment, Span};
+use crate::ast::{DataSize, Segment, Span};
 use crate::operations::Operation;
 
-// value_ops!(value_is_byte, require_value_is_byte, u8): does a u8 hold the value?
+/// A type whose range a value may have to keep: value_ops! of 000 has one function pair for each of `u8`, `i8`, `u16` and `i16`.
+pub trait ValueRange: Sized {
+    ghost MIN: { ℤ };
+
+    ghost MAX: { ℤ };
+
+    // What the type holds of a value.
+    ghost held: { ℤ → Self };
+
+    const MIN: i32;
+
+    const MAX: i32;
+
+    /// The value in the type.
+    fn of_value(value: i32) -> Self
+        requires { within MIN MAX value ≡ true }
+        ensures { result ≡ held value };
+}
+
+impl ValueRange for u8 {
+    ghost MIN = { pos 0 };
+
+    ghost MAX = { pos 255 };
+
+    ghost held = { mod_z 256 };
+
+    const MIN: i32 = 0;
+
+    const MAX: i32 = 255;
+
+    fn of_value(value: i32) -> u8 {
+        value as u8
+    }
+}
+
+impl ValueRange for i8 {
+    ghost MIN = { negsuc 127 };
+
+    ghost MAX = { pos 127 };
+
+    ghost held = { λ z. z };
+
+    const MIN: i32 = -128;
+
+    const MAX: i32 = 127;
+
+    fn of_value(value: i32) -> i8 {
+        value as i8
+    }
+}
+
+impl ValueRange for u16 {
+    ghost MIN = { pos 0 };
+
+    ghost MAX = { pos 65535 };
+
+    ghost held = { mod_z 65536 };
+
+    const MIN: i32 = 0;
+
+    const MAX: i32 = 65535;
+
+    fn of_value(value: i32) -> u16 {
+        value as u16
+    }
+}
+
+impl ValueRange for i16 {
+    ghost MIN = { negsuc 32767 };
+
+    ghost MAX = { pos 32767 };
+
+    ghost held = { λ z. z };
+
+    const MIN: i32 = -32768;
+
+    const MAX: i32 = 32767;
+
+    fn of_value(value: i32) -> i16 {
+        value as i16
+    }
+}
+
+/// Does the type hold the value?
+pub fn value_is<T: ValueRange>(value: i32) -> bool
+    ensures { result ≡ within T.MIN T.MAX value }
+{
+    T::MIN <= value && value <= T::MAX
+}
+
+/// The value in the type, or refusal 5 with the type's limits.
+pub fn require_value<T: ValueRange>(value: i32, span: Span) -> Result<T, EncodeError>
+    ensures { result ≡ required T.held T.MIN T.MAX value span }
+{
+    if value_is::<T>(value) {
+        Ok(T::of_value(value))
+    } else {
+        Err(EncodeError::ImmediateOutOfRange(span, value, T::MIN, T::MAX))
+    }
+}
+
+// value_ops!(value_is_byte, require_value_is_byte, u8)
 pub fn value_is_byte(value: i32) -> bool
     ensures { result ≡ within (pos 0) (pos 255) value }
 {
-    0 <= value && value <= 255
+    value_is::<u8>(value)
 }
 
-#[derive(Clone, Copy)]
-pub enum RequiredByte {
-    Ok(u8),
-    Err(EncodeError),
-}
-
-// The value as a u8, or refusal 5 with the limits.
-pub fn require_value_is_byte(value: i32, span: Span) -> RequiredByte
+pub fn require_value_is_byte(value: i32, span: Span) -> Result<u8, EncodeError>
     ensures { result ≡ required_byte value span }
 {
-    if value_is_byte(value) {
-        RequiredByte::Ok(value as u8)
-    } else {
-        RequiredByte::Err(EncodeError::ImmediateOutOfRange(span, value, 0, 255))
-    }
+    require_value(value, span)
 }
 
-// value_ops!(value_is_signed_byte, require_value_is_signed_byte, i8): does an i8 hold the value?
+// value_ops!(value_is_signed_byte, require_value_is_signed_byte, i8)
 pub fn value_is_signed_byte(value: i32) -> bool
     ensures { result ≡ within (negsuc 127) (pos 127) value }
 {
-    -128 <= value && value <= 127
+    value_is::<i8>(value)
 }
 
-#[derive(Clone, Copy)]
-pub enum RequiredSignedByte {
-    Ok(i8),
-    Err(EncodeError),
-}
-
-// The value as an i8, or refusal 5 with the limits.
-pub fn require_value_is_signed_byte(value: i32, span: Span) -> RequiredSignedByte
+pub fn require_value_is_signed_byte(value: i32, span: Span) -> Result<i8, EncodeError>
     ensures { result ≡ required_signed_byte value span }
 {
-    if value_is_signed_byte(value) {
-        RequiredSignedByte::Ok(value as i8)
-    } else {
-        RequiredSignedByte::Err(EncodeError::ImmediateOutOfRange(span, value, -128, 127))
-    }
+    require_value(value, span)
 }
 
-// value_ops!(value_is_word, require_value_is_word, u16): does a u16 hold the value?
+// value_ops!(value_is_word, require_value_is_word, u16)
 pub fn value_is_word(value: i32) -> bool
     ensures { result ≡ within (pos 0) (pos 65535) value }
 {
-    0 <= value && value <= 65535
+    value_is::<u16>(value)
 }
 
-#[derive(Clone, Copy)]
-pub enum RequiredWord {
-    Ok(u16),
-    Err(EncodeError),
-}
-
-// The value as a u16, or refusal 5 with the limits.
-pub fn require_value_is_word(value: i32, span: Span) -> RequiredWord
+pub fn require_value_is_word(value: i32, span: Span) -> Result<u16, EncodeError>
     ensures { result ≡ required_word value span }
 {
-    if value_is_word(value) {
-        RequiredWord::Ok(value as u16)
-    } else {
-        RequiredWord::Err(EncodeError::ImmediateOutOfRange(span, value, 0, 65535))
-    }
+    require_value(value, span)
 }
 
-// value_ops!(value_is_signed_word, require_value_is_signed_word, i16): does an i16 hold the value?
+// value_ops!(value_is_signed_word, require_value_is_signed_word, i16)
 pub fn value_is_signed_word(value: i32) -> bool
     ensures { result ≡ within (negsuc 32767) (pos 32767) value }
 {
-    -32768 <= value && value <= 32767
+    value_is::<i16>(value)
 }
 
-#[derive(Clone, Copy)]
-pub enum RequiredSignedWord {
-    Ok(i16),
-    Err(EncodeError),
-}
-
-// The value as an i16, or refusal 5 with the limits.
-pub fn require_value_is_signed_word(value: i32, span: Span) -> RequiredSignedWord
+pub fn require_value_is_signed_word(value: i32, span: Span) -> Result<i16, EncodeError>
     ensures { result ≡ required_signed_word value span }
 {
-    if value_is_signed_word(value) {
-        RequiredSignedWord::Ok(value as i16)
-    } else {
-        RequiredSignedWord::Err(EncodeError::ImmediateOutOfRange(span, value, -32768, 32767))
-    }
+    require_value(value, span)
 }
 
 // The refusals of the encoder. 000 has the first six; the last four are those of questions 2, 1 and 8, which 000 does not ask.
 // Their numbers and values are those of specs/Refusals.
-#[derive(Clone, Copy)]
+#[derive(Clone, Copy, Debug, PartialEq, Eq)]
 pub enum EncodeError {
     InvalidOperands(Span),
     OperandSizeNotSpecified(Span),
@@ -128,25 +185,18 @@ impl EncodeError {
         ensures { result ≡ span_of self }
     {
         match self {
-            EncodeError::InvalidOperands(span) => span,
-            EncodeError::OperandSizeNotSpecified(span) => span,
-            EncodeError::OperandSizesDoNotMatch(span) => span,
-            EncodeError::InvalidOperandSize(span) => span,
-            EncodeError::ImmediateOutOfRange(span, _, _, _) => span,
-            EncodeError::RelativeJumpOutOfRange(span, _, _, _) => span,
-            EncodeError::NotSupported(span) => span,
-            EncodeError::NotWellFormed(span) => span,
-            EncodeError::InvalidRepeat(span) => span,
-            EncodeError::SliceTooShort(span) => span,
+            EncodeError::InvalidOperands(span)
+            | EncodeError::OperandSizeNotSpecified(span)
+            | EncodeError::OperandSizesDoNotMatch(span)
+            | EncodeError::InvalidOperandSize(span)
+            | EncodeError::ImmediateOutOfRange(span, _, _, _)
+            | EncodeError::RelativeJumpOutOfRange(span, _, _, _)
+            | EncodeError::NotSupported(span)
+            | EncodeError::NotWellFormed(span)
+            | EncodeError::InvalidRepeat(span)
+            | EncodeError::SliceTooShort(span) => span,
         }
     }
-}
-
-// Result<(), EncodeError> of encode: the number of bytes written, or the refusal.
-#[derive(Clone, Copy)]
-pub enum Encoded {
-    Length(usize),
-    Refused(EncodeError),
 }
 
 // The prefix byte that names a segment.
@@ -156,7 +206,7 @@ pub fn segment_prefix_for(seg: Segment) -> u8
     0x26 + seg.encoding() * 8
 }
 
-#[derive(Clone, Copy)]
+#[derive(Clone, Copy, Debug, PartialEq, Eq)]
 pub enum OperandKind {
     Imm,
     Reg,
@@ -164,7 +214,7 @@ pub enum OperandKind {
     Mem,
 }
 
-#[derive(Clone, Copy)]
+#[derive(Clone, Copy, Debug, PartialEq, Eq)]
 pub enum OperandSize {
     Unspecified,
     Byte,
@@ -176,35 +226,25 @@ impl OperandSize {
     pub fn is_specified(self) -> bool
         ensures { result ≡ is_specified self }
     {
-        match self {
-            OperandSize::Unspecified => false,
-            OperandSize::Byte => true,
-            OperandSize::Word => true,
-        }
+        self != OperandSize::Unspecified
     }
 
     // Is no size stated?
     pub fn is_unspecified(self) -> bool
         ensures { result ≡ is_unspecified self }
     {
-        match self {
-            OperandSize::Unspecified => true,
-            OperandSize::Byte => false,
-            OperandSize::Word => false,
-        }
+        self == OperandSize::Unspecified
     }
 }
 
-// The Rust's Option<JumpKind>.
-#[derive(Clone, Copy)]
+#[derive(Clone, Copy, Debug, PartialEq, Eq)]
 pub enum JumpKind {
-    None,
     Far,
     Near,
     Short,
 }
 
-#[derive(Clone, Copy)]
+#[derive(Clone, Copy, Debug, PartialEq, Eq)]
 pub struct OperandData {
     // The operand's place in the source text.
     pub span: Span,
@@ -225,7 +265,7 @@ pub struct OperandData {
 
     pub displacement_size: OperandSize,
 
-    pub jmp_kind: JumpKind,
+    pub jmp_kind: Option<JumpKind>,
 
     // The mode and r/m fields of ModRM.
     pub mode: u8,
@@ -233,12 +273,12 @@ pub struct OperandData {
 }
 
 // The prefix byte of a segment override, 0 for none.
-fn override_prefix(seg_override: OptionSegment) -> u8
+fn override_prefix(seg_override: Option<Segment>) -> u8
     ensures { result ≡ prefix_or_0 seg_override }
 {
     match seg_override {
-        OptionSegment::None => 0,
-        OptionSegment::Some(seg) => segment_prefix_for(seg),
+        None => 0,
+        Some(seg) => segment_prefix_for(seg),
     }
 }
 
@@ -262,7 +302,7 @@ impl OperandData {
             imm: value,
             displacement: 0,
             displacement_size: OperandSize::Unspecified,
-            jmp_kind: JumpKind::None,
+            jmp_kind: None,
             mode: 0,
             rm: 0,
         }
@@ -280,7 +320,7 @@ impl OperandData {
             imm: 0,
             displacement: 0,
             displacement_size: OperandSize::Unspecified,
-            jmp_kind: JumpKind::None,
+            jmp_kind: None,
             mode: 3,
             rm: encoding,
         }
@@ -298,7 +338,7 @@ impl OperandData {
             imm: 0,
             displacement: 0,
             displacement_size: OperandSize::Unspecified,
-            jmp_kind: JumpKind::None,
+            jmp_kind: None,
             mode: 3,
             rm: encoding,
         }
@@ -308,8 +348,8 @@ impl OperandData {
     pub fn direct(
         span: Span,
         address: i32,
-        data_size: OptionDataSize,
-        seg_override: OptionSegment,
+        data_size: Option<DataSize>,
+        seg_override: Option<Segment>,
     ) -> OperandData
         ensures { result ≡ direct_operand span address data_size seg_override }
     {
@@ -321,7 +361,7 @@ impl OperandData {
             imm: 0,
             displacement: address,
             displacement_size: OperandSize::Word,
-            jmp_kind: JumpKind::None,
+            jmp_kind: None,
             mode: 0,
             rm: 6,
         }
@@ -332,8 +372,8 @@ impl OperandData {
         span: Span,
         addr_mode: u8,
         displacement: i16,
-        data_size: OptionDataSize,
-        seg_override: OptionSegment,
+        data_size: Option<DataSize>,
+        seg_override: Option<Segment>,
     ) -> OperandData
         ensures { result ≡ indirect_operand span addr_mode displacement data_size seg_override }
     {
@@ -349,7 +389,7 @@ impl OperandData {
                 imm: 0,
                 displacement: 0,
                 displacement_size: OperandSize::Unspecified,
-                jmp_kind: JumpKind::None,
+                jmp_kind: None,
                 mode: 0,
                 rm: addr_mode,
             }
@@ -362,7 +402,7 @@ impl OperandData {
                 imm: 0,
                 displacement: wide,
                 displacement_size: OperandSize::Byte,
-                jmp_kind: JumpKind::None,
+                jmp_kind: None,
                 mode: 1,
                 rm: addr_mode,
             }
@@ -375,7 +415,7 @@ impl OperandData {
                 imm: 0,
                 displacement: wide,
                 displacement_size: OperandSize::Word,
-                jmp_kind: JumpKind::None,
+                jmp_kind: None,
                 mode: 2,
                 rm: addr_mode,
             }
@@ -394,7 +434,7 @@ impl OperandData {
             imm: offset,
             displacement: segment,
             displacement_size: OperandSize::Unspecified,
-            jmp_kind: JumpKind::Far,
+            jmp_kind: Some(JumpKind::Far),
             mode: 0,
             rm: 0,
         }
@@ -404,47 +444,36 @@ impl OperandData {
     pub fn is_direct(self) -> bool
         ensures { result ≡ is_direct self }
     {
-        let kind = self.kind;
-        match kind {
-            OperandKind::Imm => false,
-            OperandKind::Reg => false,
-            OperandKind::Seg => false,
-            OperandKind::Mem => is_direct_address(self.mode, self.rm),
-        }
+        self.kind == OperandKind::Mem && is_direct_address(self.mode, self.rm)
     }
 }
 
-// Is the value 0? By its order, since a contract sees the bits of a signed value that `==` compares.
+// Is the value 0?
 fn value_is_zero(value: i32) -> bool
     ensures { result ≡ within (pos 0) (pos 0) value }
 {
-    0 <= value && value <= 0
+    value == 0
 }
 
 // Mode 0 with r/m 6 is no base but an address.
 pub fn is_direct_address(mode: u8, rm: u8) -> bool
     ensures { result ≡ is_direct_address mode rm }
 {
-    if mode != 0 {
-        return false;
-    }
-    rm == 6
+    mode == 0 && rm == 6
 }
 
 // The operand size of a data size that may be stated.
-pub fn operand_size_from_data_size(data_size: OptionDataSize) -> OperandSize
+pub fn operand_size_from_data_size(data_size: Option<DataSize>) -> OperandSize
     ensures { result ≡ size_from data_size }
 {
     match data_size {
-        OptionDataSize::None => OperandSize::Unspecified,
-        OptionDataSize::Some(size) => match size {
-            DataSize::Byte => OperandSize::Byte,
-            DataSize::Word => OperandSize::Word,
-        },
+        None => OperandSize::Unspecified,
+        Some(DataSize::Byte) => OperandSize::Byte,
+        Some(DataSize::Word) => OperandSize::Word,
     }
 }
 
-#[derive(Clone, Copy)]
+#[derive(Clone, Copy, Debug, PartialEq, Eq)]
 pub struct InstructionData {
     pub operation: Operation,
     pub num_opers: u8,
@@ -505,8 +534,6 @@ impl InstructionData {
     pub fn repeated(self, repeat: u8) -> InstructionData
         ensures { result ≡ with_repeat repeat self }
     {
-        let mut insn = self;
-        insn.repeat = repeat;
-        insn
+        InstructionData { repeat, ..self }
     }
 }
