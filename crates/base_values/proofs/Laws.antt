@@ -1,88 +1,13 @@
--- Laws of low bytes and words and of distances. A local holds bits, so what the code reads of a value z is `to_z w (of_z w z)`.
+-- Laws of distances. A local holds bits, so what the code reads of a value z is `to_z w (of_z w z)`.
 -- `mag z` is n for n and for -(n + 1).
 -- Assumes nothing.
-use Rattle.std.proofs.Common.{◌≡◌, ℕ, zero, suc, ◌+◌, ◌-◌, ◌%◌, ◌<◌, ◌≤◌, Bool, true, false, cond, T, ltb, ℤ, pos, negsuc, ◌+ℤ◌, ◌-ℤ◌, nat_abs, sym, refl, ap, ◌∙◌, subst, arith, w32, w64, Fits, SFits, to_z, of_z, ltb-false, ltb-true, le-ltb, lt-ltb, le-leb, leb-true}
+use Rattle.std.proofs.Common.{◌≡◌, ℕ, zero, suc, ◌+◌, ◌-◌, ◌%◌, ◌<◌, ◌≤◌, Bool, true, false, cond, T, ltb, ℤ, pos, negsuc, ◌+ℤ◌, ◌-ℤ◌, sym, refl, ap, subst, arith, w32, w64, SFits, to_z, of_z, ltb-false, ltb-true, le-ltb, lt-ltb, le-leb, leb-true}
 use lib.IntN.{+ℤ_idr}
-use lib.Signed.{mag, lt_z, le_z, non_neg}
+use lib.Signed.{mag, lt_z, le_z}
 use mir.ValLaws.{to_z-of_z, to_z_pos}
 use Rattle.mrc_compiler.specs.Values.{within, mod_z}
 use Rattle.mrc_compiler.proofs.Laws.{mag_below}
 use Rattle.base_values.specs.Distances.{wrapped}
-
--- ---- low_byte and low_word: m is 2^8 or 2^16
-
--- -1 - z of a negative z
-flip : (z : ℤ) → lt_z z (pos 0) ≡ true → negsuc 0 -ℤ z ≡ pos (mag z)
-flip (pos n) t = absurd (omega (arith, ltb-true n 0 t))
-flip (negsuc n) t = rw (le-ltb (suc n) 1 (omega arith)) (ap pos (omega arith))
-
-keep : (z : ℤ) → lt_z z (pos 0) ≡ false → z ≡ pos (mag z)
-keep (pos n) t = refl
-keep (negsuc n) t = absurd (subst T t tt)
-
-abs_neg : (z : ℤ) → lt_z z (pos 0) ≡ true → mag z + 1 ≡ nat_abs z
-abs_neg (pos n) t = absurd (omega (arith, ltb-true n 0 t))
-abs_neg (negsuc n) t = omega arith
-
-abs_pos : (z : ℤ) → lt_z z (pos 0) ≡ false → mag z ≡ nat_abs z
-abs_pos (pos n) t = refl
-abs_pos (negsuc n) t = absurd (subst T t tt)
-
-mod_neg : (m : ℕ) (z : ℤ) → lt_z z (pos 0) ≡ true → m - 1 - mag z % m ≡ mod_z m z
-mod_neg m (pos n) t = absurd (omega (arith, ltb-true n 0 t))
-mod_neg m (negsuc n) t = refl
-
-mod-pos : (m : ℕ) (z : ℤ) → lt_z z (pos 0) ≡ false → mag z % m ≡ mod_z m z
-mod-pos m (pos n) t = refl
-mod-pos m (negsuc n) t = absurd (subst T t tt)
-
--- what a cast to u32 of a magnitude asks
-mag_cast : (z : ℤ) → SFits w32 z → T (non_neg (pos (mag z))) × Fits w32 (nat_abs (pos (mag z)))
-mag_cast z f = (tt, record { fits = omega (arith, f.sfits) })
-
-module _ (z : ℤ) (f : SFits w32 z) (t : lt_z (to_z w32 (of_z w32 z)) (pos 0) ≡ true) where
-  negative : lt_z z (pos 0) ≡ true
-  negative = rw (to_z-of_z w32 z f) at t
-
-  flipped : negsuc 0 -ℤ to_z w32 (of_z w32 z) ≡ pos (mag z)
-  flipped = rw (to_z-of_z w32 z f) (flip z negative)
-
-  pub flip_fits : SFits w32 (negsuc 0 -ℤ to_z w32 (of_z w32 z))
-  flip_fits = rw flipped (record { sfits = f.sfits })
-
-  flip_read : to_z w32 (of_z w32 (negsuc 0 -ℤ to_z w32 (of_z w32 z))) ≡ pos (mag z)
-  flip_read = rw flipped (to_z-of_z w32 (pos (mag z)) (record { sfits = f.sfits }))
-
-  pub flip_cast :
-      T (non_neg (to_z w32 (of_z w32 (negsuc 0 -ℤ to_z w32 (of_z w32 z)))))
-      × Fits w32 (nat_abs (to_z w32 (of_z w32 (negsuc 0 -ℤ to_z w32 (of_z w32 z)))))
-  flip_cast = rw flip_read (mag_cast z f)
-
-  -- and one more
-  pub flip_sum : Fits w32 (nat_abs (to_z w32 (of_z w32 (negsuc 0 -ℤ to_z w32 (of_z w32 z)))) + 1)
-  flip_sum = rw flip_read (record { fits = omega (arith, f.sfits) })
-
-  pub flip_more : nat_abs (to_z w32 (of_z w32 (negsuc 0 -ℤ to_z w32 (of_z w32 z)))) + 1 ≡ nat_abs z
-  flip_more = rw flip_read (abs_neg z negative)
-
-  pub low_negative : (m : ℕ) → m - 1 - nat_abs (to_z w32 (of_z w32 (negsuc 0 -ℤ to_z w32 (of_z w32 z)))) % m ≡ mod_z m z
-  low_negative m = rw flip_read (mod_neg m z negative)
-
-module _ (z : ℤ) (f : SFits w32 z) (t : lt_z (to_z w32 (of_z w32 z)) (pos 0) ≡ false) where
-  from_zero : lt_z z (pos 0) ≡ false
-  from_zero = rw (to_z-of_z w32 z f) at t
-
-  keep_read : to_z w32 (of_z w32 z) ≡ pos (mag z)
-  keep_read = to_z-of_z w32 z f ∙ keep z from_zero
-
-  pub keep_cast : T (non_neg (to_z w32 (of_z w32 z))) × Fits w32 (nat_abs (to_z w32 (of_z w32 z)))
-  keep_cast = rw keep_read (mag_cast z f)
-
-  pub keep_all : nat_abs (to_z w32 (of_z w32 z)) ≡ nat_abs z
-  keep_all = rw keep_read (abs_pos z from_zero)
-
-  pub low_from_zero : (m : ℕ) → nat_abs (to_z w32 (of_z w32 z)) % m ≡ mod_z m z
-  low_from_zero m = rw keep_read (mod-pos m z from_zero)
 
 -- ---- near_distance
 

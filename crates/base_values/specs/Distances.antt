@@ -1,10 +1,8 @@
 -- Distances of branches (REFERENCE 5).
 -- Definitions only.
-use Rattle.std.specs.Prelude.{ℕ, ◌+◌, ◌-◌, ℤ, pos, negsuc, ◌-ℤ◌, nat_lt}
+use Rattle.std.specs.Prelude.{ℕ, ◌+◌, ◌-◌, ℤ, pos, negsuc, ◌-ℤ◌, nat_lt, Result, Ok, Err}
 use Rattle.mrc_compiler.specs.Choose.{pick}
 use Rattle.mrc_compiler.specs.Values.{within, mod_z}
-use Rattle.base_values.specs.declared.Relative.{Relative}
-use Rattle.base_values.specs.declared.Relative.TheVariants as R
 
 -- the target less the end of an instruction of `size` bytes at `offset`
 abbrev pub distance_of : ℤ → ℕ → ℕ → ℤ
@@ -19,5 +17,5 @@ abbrev pub wrapped : ℤ → ℤ
 wrapped z = as_i_32 (mod_z 4294967296 z)
 
 -- what a short branch emits for a distance: its low byte, or, where it is no signed byte, the distance to report
-abbrev pub relative_of : ℤ → Relative
-relative_of d = pick (within (negsuc 127) (pos 127) d) (R.Short (mod_z 256 d)) (R.Far (wrapped d))
+abbrev pub relative_of : ℤ → Result ℕ ℤ
+relative_of d = pick (within (negsuc 127) (pos 127) d) (Ok (mod_z 256 d)) (Err (wrapped d))

@@ -17,48 +17,28 @@ pub fn value_is_within(value: i32, low: i32, high: i32) -> bool
 pub fn low_byte(value: i32) -> u8
     ensures { result ≡ mod_z 256 value }
 {
-    if value < 0 {
-        let n = (-1 - value) as u32;
-        255 - (n % 256) as u8
-    } else {
-        let n = value as u32;
-        (n % 256) as u8
-    }
+    (value.cast_unsigned() % 256) as u8
 }
 
 // `value as u16`: the value modulo 65,536.
 pub fn low_word(value: i32) -> u16
     ensures { result ≡ mod_z 65536 value }
 {
-    if value < 0 {
-        let n = (-1 - value) as u32;
-        65535 - (n % 65536) as u16
-    } else {
-        let n = value as u32;
-        (n % 65536) as u16
-    }
+    (value.cast_unsigned() % 65536) as u16
 }
 
 // `value as u32`: the value modulo 2^32.
 pub fn bits_of(value: i32) -> u32
     ensures { result ≡ mod_z 4294967296 value }
 {
-    if value < 0 {
-        4294967295 - (-1 - value) as u32
-    } else {
-        value as u32
-    }
+    value.cast_unsigned()
 }
 
 // The value without its sign.
 pub fn magnitude(value: i32) -> u32
     ensures { result ≡ unsigned_abs value }
 {
-    if value < 0 {
-        (-1 - value) as u32 + 1
-    } else {
-        value as u32
-    }
+    value.unsigned_abs()
 }
 
 // The distance to a near target from the end of an instruction of three bytes, modulo 65,536.
@@ -96,21 +76,14 @@ fn wrap_distance(d: i64) -> i32
     }
 }
 
-// What a short branch emits, or the distance that does not fit.
-#[derive(Clone, Copy)]
-pub enum Relative {
-    Short(u8),
-    Far(i32),
-}
-
-// The distance to a short target, as a signed byte or, where it is none, modulo 2^32 for the refusal.
-pub fn relative_byte(target: i32, offset: u16, size: u8) -> Relative
+// What a short branch emits, the distance to its target as a signed byte; or the distance that is none, modulo 2^32 for the refusal.
+pub fn relative_byte(target: i32, offset: u16, size: u8) -> Result<u8, i32>
     ensures { result ≡ relative_of (distance_of target offset size) }
 {
     let d = distance(target, offset, size);
     if distance_is_signed_byte(d) {
-        Relative::Short(low_byte(d as i32))
+        Ok(low_byte(d as i32))
     } else {
-        Relative::Far(wrap_distance(d))
+        Err(wrap_distance(d))
     }
 }

@@ -1,223 +1,134 @@
 // Arithmetic and logic of 000: ADD to CMP, NOT to IDIV, TEST, INC and DEC, shifts. Each function decides which form of the table a record takes.
 #![tactic(auto)]
 
-ghost use Rattle.std.specs.Prelude.{◌≡◌, zero, eqb};
+ghost use Rattle.std.specs.Prelude.{◌≡◌, eqb, pos, Ok};
 ghost use Rattle.encode_groups.specs.declared.Group.TheVariants as G;
-ghost use Rattle.encode_lines.specs.declared.Line.TheVariants as L;
+ghost use Rattle.mrc_compiler.specs.Values.{within};
+ghost use Rattle.encode_spec.specs.Records.{dst, src};
+ghost use Rattle.encode_plans.specs.Sizes.{is_cl};
 ghost use Rattle.encode_plans.specs.Decisions.{takes_byte, add_form, rm_form, test_form, inc_form, shift_by, decision_in};
 
 use encode_lines::{Decision, Line};
-use encode_plans::Common;
-use mrc_compiler::ast::{DataSize, OptionDataSize};
+use mrc_compiler::ast::DataSize;
 use mrc_compiler::encoder;
-use mrc_compiler::encoder::{OperandData, OperandKind};
+use mrc_compiler::encoder::generate::NoForm;
+use mrc_compiler::encoder::{InstructionData, OperandData, OperandKind};
 
 // A word immediate that is a signed byte takes 83.
 fn takes_byte(size: DataSize, value: i32) -> bool
     ensures { result ≡ takes_byte size value }
 {
-    match size {
-        DataSize::Byte => false,
-        DataSize::Word => encoder::value_is_signed_byte(value),
+    matches!(size, DataSize::Word) && encoder::value_is_signed_byte(value)
+}
+
+// By kinds; beside AL or AX an immediate takes the accumulator's form.
+fn add_form(size: DataSize, dst: &OperandData, src: &OperandData) -> Result<Line, NoForm>
+    ensures { result ≡ add_form dst.now.kind src.now.kind (eqb dst.now.rm 0) (takes_byte size src.now.imm) }
+{
+    match (dst.kind, src.kind) {
+        (OperandKind::Reg | OperandKind::Mem, OperandKind::Imm) if takes_byte(size, src.imm) => {
+            Ok(Line::ArithRmImmSx)
+        }
+        (OperandKind::Reg, OperandKind::Imm) if dst.rm == 0 => Ok(Line::ArithAccImm),
+        (OperandKind::Reg | OperandKind::Mem, OperandKind::Imm) => Ok(Line::ArithRmImm),
+        (OperandKind::Reg | OperandKind::Mem, OperandKind::Reg) => Ok(Line::ArithRmReg),
+        (OperandKind::Reg, OperandKind::Mem) => Ok(Line::ArithRegRm),
+        _ => Err(NoForm::INVALID_OPERANDS),
     }
 }
 
-// By kinds: acc, the first is AL or AX; short, the immediate takes 83.
-fn add_form(dst: OperandKind, src: OperandKind, acc: bool, short: bool) -> Line
-    ensures { result ≡ add_form dst src acc short }
+pub fn encode_group_add_or_adc_sbb_and_sub_xor_cmp(
+    insn: &InstructionData,
+) -> Result<Decision, NoForm>
+    ensures { result ≡ decision_in G.Arithmetic insn.now.num_opers (dst insn.now) (src insn.now) }
 {
-    match dst {
-        OperandKind::Imm => Line::InvalidOperands,
-        OperandKind::Reg => match src {
-            OperandKind::Imm => {
-                if short {
-                    Line::ArithRmImmSx
-                } else {
-                    if acc {
-                        Line::ArithAccImm
-                    } else {
-                        Line::ArithRmImm
-                    }
-                }
-            },
-            OperandKind::Reg => Line::ArithRmReg,
-            OperandKind::Seg => Line::InvalidOperands,
-            OperandKind::Mem => Line::ArithRegRm,
-        },
-        OperandKind::Seg => Line::InvalidOperands,
-        OperandKind::Mem => match src {
-            OperandKind::Imm => {
-                if short {
-                    Line::ArithRmImmSx
-                } else {
-                    Line::ArithRmImm
-                }
-            },
-            OperandKind::Reg => Line::ArithRmReg,
-            OperandKind::Seg => Line::InvalidOperands,
-            OperandKind::Mem => Line::InvalidOperands,
-        },
-    }
-}
-
-pub fn encode_group_add_or_adc_sbb_and_sub_xor_cmp(dst: OperandData, src: OperandData) -> Decision
-    ensures { result ≡ decision_in G.Arithmetic zero dst src }
-{
-    let dst_size = dst.size;
-    let src_size = src.size;
-    let dst_kind = dst.kind;
-    let src_kind = src.kind;
-    match encode_plans::common_operand_size(dst_size, src_size) {
-        Common::Is(size) => {
-            let acc = encode_plans::is_zero(dst.rm);
-            let short = takes_byte(size, src.imm);
-            let line = add_form(dst_kind, src_kind, acc, short);
-            Decision { line, size }
-        },
-        Common::NotSpecified => encode_lines::plain(Line::SizeNotSpecified),
-        Common::DoNotMatch => encode_lines::plain(Line::SizesDoNotMatch),
-    }
+    let [dst, src] = &insn.opers;
+    let size = encode_plans::common_operand_size(dst.size, src.size)?;
+    let line = add_form(size, dst, src)?;
+    Ok(Decision { line, size })
 }
 
 // A register or memory in r/m.
-fn rm_form(line: Line, kind: OperandKind) -> Line
-    ensures { result ≡ rm_form line kind }
+fn rm_form(line: Line, kind: OperandKind) -> Result<Line, NoForm>
+    ensures { result ≡ rm_form (Ok line) kind }
 {
     match kind {
-        OperandKind::Imm => Line::InvalidOperands,
-        OperandKind::Reg => line,
-        OperandKind::Seg => Line::InvalidOperands,
-        OperandKind::Mem => line,
+        OperandKind::Reg | OperandKind::Mem => Ok(line),
+        OperandKind::Imm | OperandKind::Seg => Err(NoForm::INVALID_OPERANDS),
     }
 }
 
-pub fn encode_group_not_neg_mul_imul_div_idiv(dst: OperandData, src: OperandData) -> Decision
-    ensures { result ≡ decision_in G.Unary zero dst src }
+pub fn encode_group_not_neg_mul_imul_div_idiv(insn: &InstructionData) -> Result<Decision, NoForm>
+    ensures { result ≡ decision_in G.Unary insn.now.num_opers (dst insn.now) (src insn.now) }
 {
-    let dst_size = dst.size;
-    let dst_kind = dst.kind;
-    match encode_plans::stated_size(dst_size) {
-        OptionDataSize::None => encode_lines::plain(Line::SizeNotSpecified),
-        OptionDataSize::Some(size) => {
-            let line = rm_form(Line::UnaryRm, dst_kind);
-            Decision { line, size }
-        },
+    let [dst, _] = &insn.opers;
+    let size = encode_plans::stated_size(dst.size, NoForm::SIZE_NOT_SPECIFIED)?;
+    let line = rm_form(Line::UnaryRm, dst.kind)?;
+    Ok(Decision { line, size })
+}
+
+// By kinds; beside AL or AX an immediate takes the accumulator's form.
+fn test_form(dst: &OperandData, src: &OperandData) -> Result<Line, NoForm>
+    ensures { result ≡ test_form dst.now.kind src.now.kind (eqb dst.now.rm 0) }
+{
+    match (dst.kind, src.kind) {
+        (OperandKind::Reg, OperandKind::Imm) if dst.rm == 0 => Ok(Line::TestAccImm),
+        (OperandKind::Reg | OperandKind::Mem, OperandKind::Imm) => Ok(Line::TestRmImm),
+        (OperandKind::Reg | OperandKind::Mem, OperandKind::Reg) => Ok(Line::TestRmReg),
+        (OperandKind::Reg, OperandKind::Mem) => Ok(Line::TestRegRm),
+        _ => Err(NoForm::INVALID_OPERANDS),
     }
 }
 
-// acc: the first is AL or AX.
-fn test_form(dst: OperandKind, src: OperandKind, acc: bool) -> Line
-    ensures { result ≡ test_form dst src acc }
+pub fn encode_group_test(insn: &InstructionData) -> Result<Decision, NoForm>
+    ensures { result ≡ decision_in G.Test insn.now.num_opers (dst insn.now) (src insn.now) }
 {
-    match dst {
-        OperandKind::Imm => Line::InvalidOperands,
-        OperandKind::Reg => match src {
-            OperandKind::Imm => {
-                if acc {
-                    Line::TestAccImm
-                } else {
-                    Line::TestRmImm
-                }
-            },
-            OperandKind::Reg => Line::TestRmReg,
-            OperandKind::Seg => Line::InvalidOperands,
-            OperandKind::Mem => Line::TestRegRm,
-        },
-        OperandKind::Seg => Line::InvalidOperands,
-        OperandKind::Mem => match src {
-            OperandKind::Imm => Line::TestRmImm,
-            OperandKind::Reg => Line::TestRmReg,
-            OperandKind::Seg => Line::InvalidOperands,
-            OperandKind::Mem => Line::InvalidOperands,
-        },
-    }
-}
-
-pub fn encode_group_test(dst: OperandData, src: OperandData) -> Decision
-    ensures { result ≡ decision_in G.Test zero dst src }
-{
-    let dst_size = dst.size;
-    let src_size = src.size;
-    let dst_kind = dst.kind;
-    let src_kind = src.kind;
-    match encode_plans::common_operand_size(dst_size, src_size) {
-        Common::Is(size) => {
-            let acc = encode_plans::is_zero(dst.rm);
-            let line = test_form(dst_kind, src_kind, acc);
-            Decision { line, size }
-        },
-        Common::NotSpecified => encode_lines::plain(Line::SizeNotSpecified),
-        Common::DoNotMatch => encode_lines::plain(Line::SizesDoNotMatch),
-    }
+    let [dst, src] = &insn.opers;
+    let size = encode_plans::common_operand_size(dst.size, src.size)?;
+    let line = test_form(dst, src)?;
+    Ok(Decision { line, size })
 }
 
 // A word register is in the opcode.
-fn inc_form(size: DataSize, kind: OperandKind) -> Line
+fn inc_form(size: DataSize, kind: OperandKind) -> Result<Line, NoForm>
     ensures { result ≡ inc_form size kind }
 {
-    match kind {
-        OperandKind::Imm => Line::InvalidOperands,
-        OperandKind::Reg => match size {
-            DataSize::Byte => Line::IncRm,
-            DataSize::Word => Line::IncReg,
-        },
-        OperandKind::Seg => Line::InvalidOperands,
-        OperandKind::Mem => Line::IncRm,
+    match (kind, size) {
+        (OperandKind::Reg, DataSize::Word) => Ok(Line::IncReg),
+        (OperandKind::Reg | OperandKind::Mem, _) => Ok(Line::IncRm),
+        (OperandKind::Imm | OperandKind::Seg, _) => Err(NoForm::INVALID_OPERANDS),
     }
 }
 
-pub fn encode_group_inc_dec(dst: OperandData, src: OperandData) -> Decision
-    ensures { result ≡ decision_in G.IncDec zero dst src }
+pub fn encode_group_inc_dec(insn: &InstructionData) -> Result<Decision, NoForm>
+    ensures { result ≡ decision_in G.IncDec insn.now.num_opers (dst insn.now) (src insn.now) }
 {
-    let dst_size = dst.size;
-    let dst_kind = dst.kind;
-    match encode_plans::stated_size(dst_size) {
-        OptionDataSize::None => encode_lines::plain(Line::InvalidSize),
-        OptionDataSize::Some(size) => {
-            let line = inc_form(size, dst_kind);
-            Decision { line, size }
-        },
+    let [dst, _] = &insn.opers;
+    let size = encode_plans::stated_size(dst.size, NoForm::INVALID_SIZE)?;
+    let line = inc_form(size, dst.kind)?;
+    Ok(Decision { line, size })
+}
+
+// A register or memory by 1 or by CL.
+fn shift_form(dst: &OperandData, src: &OperandData) -> Result<Line, NoForm>
+    ensures { result ≡ rm_form (shift_by src.now.kind (within (pos 1) (pos 1) src.now.imm) (is_cl src.now.size src.now.rm)) dst.now.kind }
+{
+    match (dst.kind, src.kind) {
+        (OperandKind::Reg | OperandKind::Mem, OperandKind::Imm)
+            if encode_plans::value_is_one(src.imm) => { Ok(Line::ShiftRmOne) }
+        (OperandKind::Reg | OperandKind::Mem, OperandKind::Reg)
+            if encode_plans::is_cl(src.size, src.rm) => { Ok(Line::ShiftRmCl) }
+        _ => Err(NoForm::INVALID_OPERANDS),
     }
 }
 
-// By 1 or by CL.
-fn shift_by(src: OperandKind, one: bool, cl: bool) -> Line
-    ensures { result ≡ shift_by src one cl }
+pub fn encode_group_rol_ror_rcl_rcr_shl_sal_shr_sar(
+    insn: &InstructionData,
+) -> Result<Decision, NoForm>
+    ensures { result ≡ decision_in G.Shift insn.now.num_opers (dst insn.now) (src insn.now) }
 {
-    match src {
-        OperandKind::Imm => {
-            if one {
-                Line::ShiftRmOne
-            } else {
-                Line::InvalidOperands
-            }
-        },
-        OperandKind::Reg => {
-            if cl {
-                Line::ShiftRmCl
-            } else {
-                Line::InvalidOperands
-            }
-        },
-        OperandKind::Seg => Line::InvalidOperands,
-        OperandKind::Mem => Line::InvalidOperands,
-    }
-}
-
-pub fn encode_group_rol_ror_rcl_rcr_shl_sal_shr_sar(dst: OperandData, src: OperandData) -> Decision
-    ensures { result ≡ decision_in G.Shift zero dst src }
-{
-    let dst_size = dst.size;
-    let dst_kind = dst.kind;
-    let src_kind = src.kind;
-    let src_size = src.size;
-    match encode_plans::stated_size(dst_size) {
-        OptionDataSize::None => encode_lines::plain(Line::SizeNotSpecifiedFirst),
-        OptionDataSize::Some(size) => {
-            let one = encode_plans::value_is_one(src.imm);
-            let cl = encode_plans::is_cl(src_size, src.rm);
-            let line = rm_form(shift_by(src_kind, one, cl), dst_kind);
-            Decision { line, size }
-        },
-    }
+    let [dst, src] = &insn.opers;
+    let size = encode_plans::stated_size(dst.size, NoForm::SIZE_NOT_SPECIFIED_FIRST)?;
+    let line = shift_form(dst, src)?;
+    Ok(Decision { line, size })
 }

@@ -3,47 +3,44 @@
 
 ghost use Rattle.std.specs.Prelude.{◌≡◌};
 ghost use Rattle.encode_run.specs.Run.{empty_run, appended};
-ghost use Rattle.encode_fields.specs.Fields.{field_bytes};
-ghost use Rattle.encode_codes.specs.Emit.{emitted, kept, code_at, count_of, codes_emitted, codes_answer};
+ghost use Rattle.encode_fields.specs.Fields.{field_bytes, code_answer};
+ghost use Rattle.encode_codes.specs.Emit.{emitted, told, after, codes_answer, codes_after};
 
-use encode_fields::{Field, Refusal};
+use encode_fields::Field;
 use encode_run::ByteRun;
-use mrc_compiler::encoder::InstructionData;
 use mrc_compiler::encoder::generate::{Code, Codes};
+use mrc_compiler::encoder::{EncodeError, InstructionData};
 
-#[derive(Clone, Copy)]
-pub struct Emitted {
-    pub refusal: Refusal,
-    pub run: ByteRun,
-}
-
-// Emits one field.
-fn emit_field(emitter: &mut ByteRun, field: Field)
+// Emits one field, if it is there.
+fn emit_field(emitter: &mut ByteRun, field: Option<Field>)
     ensures { emitter.new ≡ appended emitter.old (field_bytes field) }
 {
     match field {
-        Field::Absent => {}
-        Field::Byte(byte) => {
-            emitter.emit(byte);
-        }
-        Field::Word(word) => {
+        None => {}
+        Some(Field::Byte(byte)) => emitter.emit(byte),
+        Some(Field::Word(word)) => {
             emitter.emit(encode_fields::low_half(word));
             emitter.emit(encode_fields::high_half(word));
         }
     }
 }
 
-// The first code of a list, or the second.
-fn code_at(codes: Codes, i: u8) -> Code
-    ensures { result ≡ code_at codes i }
+// Emits one code, or nothing where it is refused.
+fn emit_code(
+    emitter: &mut ByteRun,
+    insn: InstructionData,
+    offset: u16,
+    code: Code,
+) -> Result<(), EncodeError>
+    ensures value { result ≡ told (code_answer code insn offset) }
+    ensures run_after { emitter.new ≡ after emitter.old (code_answer code insn offset) }
 {
-    if i == 0 { codes.first } else { codes.second }
-}
-
-fn count_of(codes: Codes) -> u8
-    ensures { result ≡ count_of codes }
-{
-    if codes.count == 1 { 1 } else { 2 }
+    let fields = encode_fields::fields_of(insn, offset, code)?;
+    emit_field(emitter, fields.prefix);
+    emit_field(emitter, fields.opcode);
+    emit_field(emitter, fields.modrm);
+    emit_field(emitter, fields.value);
+    Ok(())
 }
 
 // Emits the codes of a list, one after the other, until one is refused.
@@ -52,45 +49,22 @@ pub fn emit_codes(
     insn: InstructionData,
     offset: u16,
     codes: Codes,
-) -> Refusal
-    ensures { record { refusal = result; run = emitter.new } ≡ codes_emitted emitter.old codes insn offset }
+) -> Result<(), EncodeError>
+    ensures value { result ≡ told (codes_answer codes insn offset) }
+    ensures run_after { emitter.new ≡ codes_after emitter.old codes insn offset }
 {
-    let n = count_of(codes);
-    let mut i = 0;
-    while i < n {
-        let fields = encode_fields::fields_of(insn, offset, code_at(codes, i));
-        let refusal = fields.refusal;
-        if encode_fields::is_refused(refusal) {
-            return refusal;
-        }
-        emit_field(emitter, fields.prefix);
-        emit_field(emitter, fields.opcode);
-        emit_field(emitter, fields.modrm);
-        emit_field(emitter, fields.value);
-        i += 1;
+    emit_code(emitter, insn, offset, codes.first)?;
+    if let Some(code) = codes.second {
+        emit_code(emitter, insn, offset, code)?;
     }
-    Refusal::None
-}
-
-// A run that was emitted; on a refusal it is dropped.
-fn keep(refusal: Refusal, run: ByteRun) -> Emitted
-    ensures { result ≡ kept (record { refusal = refusal; run = run }) }
-{
-    let dropped = encode_run::empty_run();
-    match refusal {
-        Refusal::None => Emitted { refusal, run },
-        Refusal::Because(_) => Emitted {
-            refusal,
-            run: dropped,
-        },
-    }
+    Ok(())
 }
 
 // The run of a code list, or the refusal: an empty run is lent to whoever emits the codes. Its parameters are plain, so a caller is lent nothing.
-pub fn codes_run(insn: InstructionData, offset: u16, codes: Codes) -> Emitted
+pub fn codes_run(insn: InstructionData, offset: u16, codes: Codes) -> Result<ByteRun, EncodeError>
     ensures { result ≡ emitted empty_run (codes_answer codes insn offset) }
 {
     let mut emitter = encode_run::empty_run();
-    let refusal = emit_codes(&mut emitter, insn, offset, codes);
-    keep(refusal, emitter)
+    emit_codes(&mut emitter, insn, offset, codes)?;
+    Ok(emitter)
 }

@@ -1,226 +1,168 @@
 // Control transfer of 000, and the groups without operands. Each function decides which form of the table a record takes.
 #![tactic(auto)]
 
-ghost use Rattle.std.specs.Prelude.{◌≡◌, zero};
+ghost use Rattle.std.specs.Prelude.{◌≡◌, pos, Ok, Err};
+ghost use Rattle.mrc_compiler.specs.Values.{within};
 ghost use Rattle.encode_groups.specs.declared.Group.TheVariants as G;
+ghost use Rattle.encode_spec.specs.Records.{dst, src};
 ghost use Rattle.encode_plans.specs.Decisions.{ret_form, through_form, far_form, call_form, jmp_form, short_form, int_form, decision_in};
 
 use encode_lines::{Decision, Line};
 use mrc_compiler::encoder;
-use mrc_compiler::encoder::{JumpKind, OperandData, OperandKind, OperandSize};
+use mrc_compiler::encoder::generate::NoForm;
+use mrc_compiler::encoder::{InstructionData, JumpKind, OperandData, OperandKind, OperandSize};
 
 // With an operand, which is an immediate.
-fn ret_form(kind: OperandKind) -> Line
+fn ret_form(kind: OperandKind) -> Result<Line, NoForm>
     ensures { result ≡ ret_form kind }
 {
     match kind {
-        OperandKind::Imm => Line::RetImm,
-        OperandKind::Reg => Line::InvalidOperands,
-        OperandKind::Seg => Line::InvalidOperands,
-        OperandKind::Mem => Line::InvalidOperands,
+        OperandKind::Imm => Ok(Line::RetImm),
+        _ => Err(NoForm::INVALID_OPERANDS),
     }
 }
 
-pub fn encode_group_ret_retn_retf(num_opers: u8, dst: OperandData, src: OperandData) -> Decision
-    ensures { result ≡ decision_in G.Ret num_opers dst src }
+pub fn encode_group_ret_retn_retf(insn: &InstructionData) -> Result<Decision, NoForm>
+    ensures { result ≡ decision_in G.Ret insn.now.num_opers (dst insn.now) (src insn.now) }
 {
-    if encode_plans::is_zero(num_opers) {
-        encode_lines::plain(Line::Ret)
-    } else {
-        let kind = dst.kind;
-        encode_lines::plain(ret_form(kind))
+    if insn.num_opers == 0 {
+        return Ok(encode_lines::plain(Line::Ret));
     }
+    let [dst, _] = &insn.opers;
+    Ok(encode_lines::plain(ret_form(dst.kind)?))
 }
 
 // Through a register or memory: near, and no Byte; Far and Short are refused as the last two say.
 fn through_form(
     line: Line,
-    jmp_kind: JumpKind,
-    size: OperandSize,
-    if_far: Line,
-    if_short: Line,
-) -> Line
-    ensures { result ≡ through_form line jmp_kind size if_far if_short }
+    dst: &OperandData,
+    if_far: Result<Line, NoForm>,
+    if_short: Result<Line, NoForm>,
+) -> Result<Line, NoForm>
+    ensures { result ≡ through_form (Ok line) dst.now.jmp_kind dst.now.size if_far if_short }
 {
-    match jmp_kind {
-        JumpKind::None => match size {
-            OperandSize::Unspecified => line,
-            OperandSize::Byte => Line::InvalidOperands,
-            OperandSize::Word => line,
-        },
-        JumpKind::Far => if_far,
-        JumpKind::Near => match size {
-            OperandSize::Unspecified => line,
-            OperandSize::Byte => Line::InvalidOperands,
-            OperandSize::Word => line,
-        },
-        JumpKind::Short => if_short,
+    match (dst.jmp_kind, dst.size) {
+        (Some(JumpKind::Far), _) => if_far,
+        (Some(JumpKind::Short), _) => if_short,
+        (_, OperandSize::Byte) => Err(NoForm::INVALID_OPERANDS),
+        _ => Ok(line),
     }
 }
 
 // Through memory that holds a far target, no Byte.
-fn far_form(size: OperandSize) -> Line
+fn far_form(size: OperandSize) -> Result<Line, NoForm>
     ensures { result ≡ far_form size }
 {
     match size {
-        OperandSize::Unspecified => Line::CallMemFar,
-        OperandSize::Byte => Line::InvalidOperands,
-        OperandSize::Word => Line::CallMemFar,
+        OperandSize::Byte => Err(NoForm::INVALID_OPERANDS),
+        OperandSize::Unspecified | OperandSize::Word => Ok(Line::CallMemFar),
     }
 }
 
-fn call_form(kind: OperandKind, jmp_kind: JumpKind, size: OperandSize) -> Line
-    ensures { result ≡ call_form kind jmp_kind size }
+fn call_form(dst: &OperandData) -> Result<Line, NoForm>
+    ensures { result ≡ call_form dst.now.kind dst.now.jmp_kind dst.now.size }
 {
-    match kind {
-        OperandKind::Imm => match jmp_kind {
-            JumpKind::None => Line::CallRel,
-            JumpKind::Far => Line::InvalidOperands,
-            JumpKind::Near => Line::CallRel,
-            JumpKind::Short => Line::InvalidOperands,
-        },
-        OperandKind::Reg => through_form(
-            Line::CallRm,
-            jmp_kind,
-            size,
-            Line::InvalidOperands,
-            Line::InvalidOperands,
-        ),
-        OperandKind::Seg => Line::InvalidOperands,
-        OperandKind::Mem => through_form(
-            Line::CallRm,
-            jmp_kind,
-            size,
-            far_form(size),
-            Line::InvalidOperands,
-        ),
+    let refused = Err(NoForm::INVALID_OPERANDS);
+    match (dst.kind, dst.jmp_kind) {
+        (OperandKind::Imm, None | Some(JumpKind::Near)) => Ok(Line::CallRel),
+        (OperandKind::Reg, _) => through_form(Line::CallRm, dst, refused, refused),
+        (OperandKind::Mem, _) => through_form(Line::CallRm, dst, far_form(dst.size), refused),
+        _ => refused,
     }
 }
 
-pub fn encode_group_call(dst: OperandData, src: OperandData) -> Decision
-    ensures { result ≡ decision_in G.Call zero dst src }
+pub fn encode_group_call(insn: &InstructionData) -> Result<Decision, NoForm>
+    ensures { result ≡ decision_in G.Call insn.now.num_opers (dst insn.now) (src insn.now) }
 {
-    let kind = dst.kind;
-    let jmp_kind = dst.jmp_kind;
-    let size = dst.size;
-    encode_lines::plain(call_form(kind, jmp_kind, size))
+    let [dst, _] = &insn.opers;
+    Ok(encode_lines::plain(call_form(dst)?))
 }
 
-// word: the immediate is one.
-fn jmp_form(kind: OperandKind, jmp_kind: JumpKind, size: OperandSize, word: bool) -> Line
-    ensures { result ≡ jmp_form kind jmp_kind size word }
+fn jmp_form(dst: &OperandData) -> Result<Line, NoForm>
+    ensures { result ≡ jmp_form dst.now.kind dst.now.jmp_kind dst.now.size (within (pos 0) (pos 65535) dst.now.imm) }
 {
-    match kind {
-        OperandKind::Imm => {
-            if word {
-                match jmp_kind {
-                    JumpKind::None => Line::JmpRel,
-                    JumpKind::Far => Line::JmpPtr,
-                    JumpKind::Near => Line::JmpRel,
-                    JumpKind::Short => Line::JmpShort,
-                }
-            } else {
-                Line::TargetOutOfRange
-            }
-        },
-        OperandKind::Reg => through_form(
-            Line::JmpRm,
-            jmp_kind,
-            size,
-            Line::InvalidFirst,
-            Line::InvalidFirst,
-        ),
-        OperandKind::Seg => Line::InvalidOperands,
-        OperandKind::Mem => through_form(
-            Line::JmpRm,
-            jmp_kind,
-            size,
-            Line::InvalidFirst,
-            Line::InvalidFirst,
-        ),
+    let refused = Err(NoForm::INVALID_FIRST);
+    match (dst.kind, dst.jmp_kind) {
+        (OperandKind::Imm, _) if !encoder::value_is_word(dst.imm) => {
+            Err(NoForm::TARGET_OUT_OF_RANGE)
+        }
+        (OperandKind::Imm, None | Some(JumpKind::Near)) => Ok(Line::JmpRel),
+        (OperandKind::Imm, Some(JumpKind::Far)) => Ok(Line::JmpPtr),
+        (OperandKind::Imm, Some(JumpKind::Short)) => Ok(Line::JmpShort),
+        (OperandKind::Reg | OperandKind::Mem, _) => {
+            through_form(Line::JmpRm, dst, refused, refused)
+        }
+        (OperandKind::Seg, _) => Err(NoForm::INVALID_OPERANDS),
     }
 }
 
-pub fn encode_group_jmp(dst: OperandData, src: OperandData) -> Decision
-    ensures { result ≡ decision_in G.Jmp zero dst src }
+pub fn encode_group_jmp(insn: &InstructionData) -> Result<Decision, NoForm>
+    ensures { result ≡ decision_in G.Jmp insn.now.num_opers (dst insn.now) (src insn.now) }
 {
-    let kind = dst.kind;
-    let jmp_kind = dst.jmp_kind;
-    let size = dst.size;
-    encode_lines::plain(jmp_form(kind, jmp_kind, size, encoder::value_is_word(dst.imm)))
+    let [dst, _] = &insn.opers;
+    Ok(encode_lines::plain(jmp_form(dst)?))
 }
 
 // A distance byte, of no kind or Short; else refused.
-fn short_form(kind: OperandKind, jmp_kind: JumpKind, refused: Line) -> Line
-    ensures { result ≡ short_form kind jmp_kind refused }
+fn short_form(dst: &OperandData, no_form: NoForm) -> Result<Line, NoForm>
+    ensures { result ≡ short_form dst.now.kind dst.now.jmp_kind (Err no_form) }
 {
-    match kind {
-        OperandKind::Imm => match jmp_kind {
-            JumpKind::None => Line::ShortRel,
-            JumpKind::Far => refused,
-            JumpKind::Near => refused,
-            JumpKind::Short => Line::ShortRel,
-        },
-        OperandKind::Reg => refused,
-        OperandKind::Seg => refused,
-        OperandKind::Mem => refused,
+    match (dst.kind, dst.jmp_kind) {
+        (OperandKind::Imm, None | Some(JumpKind::Short)) => Ok(Line::ShortRel),
+        _ => Err(no_form),
     }
 }
 
-pub fn encode_group_jcc(dst: OperandData, src: OperandData) -> Decision
-    ensures { result ≡ decision_in G.Jcc zero dst src }
+pub fn encode_group_jcc(insn: &InstructionData) -> Result<Decision, NoForm>
+    ensures { result ≡ decision_in G.Jcc insn.now.num_opers (dst insn.now) (src insn.now) }
 {
-    let kind = dst.kind;
-    let jmp_kind = dst.jmp_kind;
-    encode_lines::plain(short_form(kind, jmp_kind, Line::InvalidFirst))
+    let [dst, _] = &insn.opers;
+    Ok(encode_lines::plain(short_form(dst, NoForm::INVALID_FIRST)?))
 }
 
-pub fn encode_group_loopc(dst: OperandData, src: OperandData) -> Decision
-    ensures { result ≡ decision_in G.Loopc zero dst src }
+pub fn encode_group_loopc(insn: &InstructionData) -> Result<Decision, NoForm>
+    ensures { result ≡ decision_in G.Loopc insn.now.num_opers (dst insn.now) (src insn.now) }
 {
-    let kind = dst.kind;
-    let jmp_kind = dst.jmp_kind;
-    encode_lines::plain(short_form(kind, jmp_kind, Line::InvalidOperands))
+    let [dst, _] = &insn.opers;
+    Ok(encode_lines::plain(short_form(dst, NoForm::INVALID_OPERANDS)?))
 }
 
-pub fn encode_group_no_operands(dst: OperandData, src: OperandData) -> Decision
-    ensures { result ≡ decision_in G.NoOperands zero dst src }
+pub fn encode_group_no_operands(insn: &InstructionData) -> Result<Decision, NoForm>
+    ensures { result ≡ decision_in G.NoOperands insn.now.num_opers (dst insn.now) (src insn.now) }
 {
-    encode_lines::plain(Line::Single)
+    Ok(encode_lines::plain(Line::Single))
 }
 
-pub fn encode_group_prefixes(dst: OperandData, src: OperandData) -> Decision
-    ensures { result ≡ decision_in G.Prefixes zero dst src }
+pub fn encode_group_prefixes(insn: &InstructionData) -> Result<Decision, NoForm>
+    ensures { result ≡ decision_in G.Prefixes insn.now.num_opers (dst insn.now) (src insn.now) }
 {
-    encode_lines::plain(Line::Single)
+    Ok(encode_lines::plain(Line::Single))
 }
 
-fn int_form(kind: OperandKind) -> Line
+fn int_form(kind: OperandKind) -> Result<Line, NoForm>
     ensures { result ≡ int_form kind }
 {
     match kind {
-        OperandKind::Imm => Line::IntImm,
-        OperandKind::Reg => Line::InvalidFirst,
-        OperandKind::Seg => Line::InvalidFirst,
-        OperandKind::Mem => Line::InvalidFirst,
+        OperandKind::Imm => Ok(Line::IntImm),
+        _ => Err(NoForm::INVALID_FIRST),
     }
 }
 
-pub fn encode_group_int(dst: OperandData, src: OperandData) -> Decision
-    ensures { result ≡ decision_in G.Int zero dst src }
+pub fn encode_group_int(insn: &InstructionData) -> Result<Decision, NoForm>
+    ensures { result ≡ decision_in G.Int insn.now.num_opers (dst insn.now) (src insn.now) }
 {
-    let kind = dst.kind;
-    encode_lines::plain(int_form(kind))
+    let [dst, _] = &insn.opers;
+    Ok(encode_lines::plain(int_form(dst.kind)?))
 }
 
-pub fn encode_group_aam(dst: OperandData, src: OperandData) -> Decision
-    ensures { result ≡ decision_in G.Aam zero dst src }
+pub fn encode_group_aam(insn: &InstructionData) -> Result<Decision, NoForm>
+    ensures { result ≡ decision_in G.Aam insn.now.num_opers (dst insn.now) (src insn.now) }
 {
-    encode_lines::plain(Line::Aam)
+    Ok(encode_lines::plain(Line::Aam))
 }
 
-pub fn encode_group_aad(dst: OperandData, src: OperandData) -> Decision
-    ensures { result ≡ decision_in G.Aad zero dst src }
+pub fn encode_group_aad(insn: &InstructionData) -> Result<Decision, NoForm>
+    ensures { result ≡ decision_in G.Aad insn.now.num_opers (dst insn.now) (src insn.now) }
 {
-    encode_lines::plain(Line::Aad)
+    Ok(encode_lines::plain(Line::Aad))
 }

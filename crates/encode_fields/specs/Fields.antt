@@ -1,7 +1,8 @@
 -- What a code emits, field by field: its bytes, or the refusal (003).
 -- Definitions only.
-use Rattle.std.specs.Prelude.{ℕ, ◌+◌, ◌*◌, ◌%◌, Bool, true, false, List, [], ◌∷◌, ◌++◌, eqb, ℤ, pos, negsuc}
+use Rattle.std.specs.Prelude.{ℕ, ◌+◌, ◌*◌, ◌%◌, true, List, [], ◌∷◌, ◌++◌, eqb, ℤ, pos, negsuc, Option, Some, None, Result, Ok, Err}
 use Rattle.mrc_compiler.specs.declared.ast.Span.{Span}
+use Rattle.mrc_compiler.specs.declared.encoder.EncodeError.{EncodeError}
 use Rattle.mrc_compiler.specs.declared.encoder.EncodeError.TheVariants as E
 use Rattle.mrc_compiler.specs.declared.encoder.InstructionData.{InstructionData}
 use Rattle.mrc_compiler.specs.declared.encoder.OperandData.{OperandData}
@@ -15,33 +16,28 @@ use Rattle.encode_spec.specs.Records.{dst, src}
 use Rattle.encode_spec.specs.Limits.{data_byte, data_word, vector, popped, address, target, segment, limits}
 use Rattle.encode_spec.specs.Layout.{word_bytes, byte_of, word_of, prefix_bytes, displacement_bytes}
 use Rattle.encode_spec.specs.Answer.{Answer, bytes, refused}
-use Rattle.encode_fields.specs.declared.Refusal.{Refusal}
-use Rattle.encode_fields.specs.declared.Refusal.TheVariants as R
 use Rattle.encode_fields.specs.declared.Field.{Field}
 use Rattle.encode_fields.specs.declared.Field.TheVariants as F
 use Rattle.encode_fields.specs.declared.Fields.{Fields}
 
 -- ---- the fields of a code
-abbrev pub field_bytes : Field → List ℕ
-field_bytes F.Absent = []
-field_bytes (F.Byte b) = b ∷ []
-field_bytes (F.Word w) = word_bytes w
+abbrev pub field_bytes : Option Field → List ℕ
+field_bytes None = []
+field_bytes (Some (F.Byte b)) = b ∷ []
+field_bytes (Some (F.Word w)) = word_bytes w
 
 abbrev pub fields_bytes : Fields → List ℕ
 fields_bytes f = field_bytes f.prefix ++ (field_bytes f.opcode ++ (field_bytes f.modrm ++ field_bytes f.value))
 
-abbrev pub answer_by : Refusal → List ℕ → Answer
-answer_by R.None bs = bytes bs
-answer_by (R.Because e) bs = refused e
-
-abbrev pub answer_of : Fields → Answer
-answer_of f = answer_by f.refusal (fields_bytes f)
-
-abbrev pub is_refused : Refusal → Bool
-is_refused R.None = false
-is_refused (R.Because e) = true
+abbrev pub answer_of : Result Fields EncodeError → Answer
+answer_of (Ok f) = bytes (fields_bytes f)
+answer_of (Err e) = refused e
 
 -- ---- the bytes of a code
+-- refusal 5 for a value that is not in its limits
+abbrev pub required : ℤ → ℤ → ℤ → Span → Result (Unit {0}) EncodeError
+required low high value span = pick (within low high value) (Ok tt) (Err (E.ImmediateOutOfRange span value low high))
+
 -- a value in its limits, or refusal 5
 abbrev pub ranged : ℤ → ℤ → ℤ → Span → List ℕ → Answer
 ranged low high value span bs = pick (within low high value) (bytes bs) (refused (E.ImmediateOutOfRange span value low high))

@@ -2,87 +2,61 @@
 #![tactic(auto)]
 
 ghost use Rattle.std.specs.Prelude.{◌≡◌, [], ◌∷◌, ◌++◌, ◌+◌, ◌*◌, ◌/◌, ◌%◌};
-ghost use Rattle.encode_spec.specs.Answer.{bytes, refused};
 ghost use Rattle.encode_spec.specs.Layout.{prefix_bytes, displacement_bytes};
 ghost use Rattle.encode_spec.specs.Limits.{target, segment, limits};
-ghost use Rattle.mrc_compiler.specs.declared.encoder.EncodeError.TheVariants.{ImmediateOutOfRange};
-ghost use Rattle.encode_fields.specs.Fields.{field_bytes, answer_of, immediate_byte, immediate_word, relative_byte, relative_word, mod_rm_byte, mod_reg_rm, joined, is_refused, operand, other, code_answer};
+ghost use Rattle.encode_fields.specs.Fields.{field_bytes, fields_bytes, answer_of, required, immediate_byte, immediate_word, relative_byte, relative_word, mod_rm_byte, mod_reg_rm, joined, operand, other, code_answer};
 
-use base_values::Relative;
 use mrc_compiler::ast::Span;
 use mrc_compiler::encoder::generate::Code;
 use mrc_compiler::encoder::{EncodeError, InstructionData, OperandData, OperandSize};
 
-// The Rust's Result<(), EncodeError>. An enum cannot hold the run's array, so the two stand side by side.
-#[derive(Clone, Copy)]
-pub enum Refusal {
-    None,
-    Because(EncodeError),
-}
-
-// A field of an instruction: absent, a byte, or a word, low byte first.
-#[derive(Clone, Copy)]
+// A field of an instruction: a byte, or a word, low byte first.
+#[derive(Clone, Copy, Debug, PartialEq, Eq)]
 pub enum Field {
-    Absent,
     Byte(u8),
     Word(u16),
 }
 
-// What a code emits, one field after the other, or why it is refused.
-#[derive(Clone, Copy)]
+// What a code emits, one field after the other.
+#[derive(Clone, Copy, Debug, PartialEq, Eq)]
 pub struct Fields {
-    pub prefix: Field,
-    pub opcode: Field,
-    pub modrm: Field,
-    pub value: Field,
-    pub refusal: Refusal,
+    pub prefix: Option<Field>,
+    pub opcode: Option<Field>,
+    pub modrm: Option<Field>,
+    pub value: Option<Field>,
 }
 
 // An immediate, a distance, or an opcode by itself.
 fn value_field(value: Field) -> Fields
-    ensures { answer_of result ≡ bytes (field_bytes value) }
+    ensures { fields_bytes result ≡ field_bytes (Some value) }
 {
     Fields {
-        prefix: Field::Absent,
-        opcode: Field::Absent,
-        modrm: Field::Absent,
-        value,
-        refusal: Refusal::None,
-    }
-}
-
-fn refuse(error: EncodeError) -> Fields
-    ensures { answer_of result ≡ refused error }
-{
-    Fields {
-        prefix: Field::Absent,
-        opcode: Field::Absent,
-        modrm: Field::Absent,
-        value: Field::Absent,
-        refusal: Refusal::Because(error),
+        prefix: None,
+        opcode: None,
+        modrm: None,
+        value: Some(value),
     }
 }
 
 // The prefix of a memory operand, also where it names the default segment; 0 means none.
-fn prefix_field(segment_prefix: u8) -> Field
+fn prefix_field(segment_prefix: u8) -> Option<Field>
     ensures { field_bytes result ≡ prefix_bytes segment_prefix }
 {
     if segment_prefix == 0 {
-        Field::Absent
+        None
     } else {
-        Field::Byte(segment_prefix)
+        Some(Field::Byte(segment_prefix))
     }
 }
 
 // The displacement, in the size that the operand states.
-fn displacement_field(oper: OperandData) -> Field
+fn displacement_field(oper: OperandData) -> Option<Field>
     ensures { field_bytes result ≡ displacement_bytes oper }
 {
-    let size = oper.displacement_size;
-    match size {
-        OperandSize::Unspecified => Field::Absent,
-        OperandSize::Byte => Field::Byte(base_values::low_byte(oper.displacement)),
-        OperandSize::Word => Field::Word(base_values::low_word(oper.displacement)),
+    match oper.displacement_size {
+        OperandSize::Unspecified => None,
+        OperandSize::Byte => Some(Field::Byte(base_values::low_byte(oper.displacement))),
+        OperandSize::Word => Some(Field::Word(base_values::low_word(oper.displacement))),
     }
 }
 
@@ -95,111 +69,90 @@ fn mod_rm_byte(mode: u8, reg: u8, rm: u8) -> u8
 
 // Prefix, opcode, ModRM and displacement.
 fn mod_reg_rm(op_code: u8, rm: OperandData, reg: u8) -> Fields
-    ensures { answer_of result ≡ bytes (mod_reg_rm op_code rm reg) }
+    ensures { fields_bytes result ≡ mod_reg_rm op_code rm reg }
 {
-    let prefix = prefix_field(rm.segment_prefix);
-    let modrm = mod_rm_byte(rm.mode, reg, rm.rm);
-    let value = displacement_field(rm);
     Fields {
-        prefix,
-        opcode: Field::Byte(op_code),
-        modrm: Field::Byte(modrm),
-        value,
-        refusal: Refusal::None,
+        prefix: prefix_field(rm.segment_prefix),
+        opcode: Some(Field::Byte(op_code)),
+        modrm: Some(Field::Byte(mod_rm_byte(rm.mode, reg, rm.rm))),
+        value: displacement_field(rm),
     }
 }
 
 // Prefix and opcode.
 fn prefixed_op_code(segment_prefix: u8, op_code: u8) -> Fields
-    ensures { answer_of result ≡ bytes (prefix_bytes segment_prefix ++ (op_code ∷ [])) }
+    ensures { fields_bytes result ≡ prefix_bytes segment_prefix ++ (op_code ∷ []) }
 {
-    let prefix = prefix_field(segment_prefix);
     Fields {
-        prefix,
-        opcode: Field::Byte(op_code),
-        modrm: Field::Absent,
-        value: Field::Absent,
-        refusal: Refusal::None,
+        prefix: prefix_field(segment_prefix),
+        opcode: Some(Field::Byte(op_code)),
+        modrm: None,
+        value: None,
     }
 }
 
-// Refusal 5: the value is not in its limits.
-fn refuse_value(low: i32, high: i32, value: i32, span: Span) -> Fields
-    ensures { answer_of result ≡ refused (ImmediateOutOfRange span value low high) }
+// Refusal 5 for a value that is not in its limits.
+fn require_within(low: i32, high: i32, value: i32, span: Span) -> Result<(), EncodeError>
+    ensures { result ≡ required low high value span }
 {
-    refuse(EncodeError::ImmediateOutOfRange(span, value, low, high))
+    if base_values::value_is_within(value, low, high) {
+        Ok(())
+    } else {
+        Err(EncodeError::ImmediateOutOfRange(span, value, low, high))
+    }
 }
 
 // The low byte of a value in its limits, or refusal 5.
-fn byte_within(low: i32, high: i32, value: i32, span: Span) -> Fields
+fn byte_within(low: i32, high: i32, value: i32, span: Span) -> Result<Fields, EncodeError>
     ensures { answer_of result ≡ immediate_byte low high value span }
 {
-    if base_values::value_is_within(value, low, high) {
-        value_field(Field::Byte(base_values::low_byte(value)))
-    } else {
-        refuse_value(low, high, value, span)
-    }
+    require_within(low, high, value, span)?;
+    Ok(value_field(Field::Byte(base_values::low_byte(value))))
 }
 
 // The low word of a value in its limits, or refusal 5.
-fn word_within(low: i32, high: i32, value: i32, span: Span) -> Fields
+fn word_within(low: i32, high: i32, value: i32, span: Span) -> Result<Fields, EncodeError>
     ensures { answer_of result ≡ immediate_word low high value span }
 {
-    if base_values::value_is_within(value, low, high) {
-        value_field(Field::Word(base_values::low_word(value)))
-    } else {
-        refuse_value(low, high, value, span)
-    }
+    require_within(low, high, value, span)?;
+    Ok(value_field(Field::Word(base_values::low_word(value))))
 }
 
 // A distance byte, or refusal 6.
-fn relative_byte(oper: OperandData, offset: u16, size: u8) -> Fields
+fn relative_byte(oper: OperandData, offset: u16, size: u8) -> Result<Fields, EncodeError>
     ensures { answer_of result ≡ relative_byte oper offset size }
 {
-    let span = oper.span;
     match base_values::relative_byte(oper.imm, offset, size) {
-        Relative::Short(byte) => value_field(Field::Byte(byte)),
-        Relative::Far(distance) => {
-            refuse(EncodeError::RelativeJumpOutOfRange(span, OperandSize::Byte, true, distance))
-        }
+        Ok(byte) => Ok(value_field(Field::Byte(byte))),
+        Err(distance) => Err(EncodeError::RelativeJumpOutOfRange(
+            oper.span,
+            OperandSize::Byte,
+            true,
+            distance,
+        )),
     }
 }
 
 // A distance word, or refusal 5 for a target that is no word.
-fn relative_word(oper: OperandData, offset: u16) -> Fields
+fn relative_word(oper: OperandData, offset: u16) -> Result<Fields, EncodeError>
     ensures { answer_of result ≡ relative_word oper offset }
 {
-    let span = oper.span;
-    let target = oper.imm;
-    if base_values::value_is_within(target, 0, 65535) {
-        value_field(Field::Word(base_values::near_distance(target, offset)))
-    } else {
-        refuse_value(0, 65535, target, span)
-    }
+    require_within(0, 65535, oper.imm, oper.span)?;
+    Ok(value_field(Field::Word(base_values::near_distance(oper.imm, offset))))
 }
 
 // The target's offset, then its segment: two words, which stand in the fields of an opcode and of its value.
-fn far_words(oper: OperandData) -> Fields
+fn far_words(oper: OperandData) -> Result<Fields, EncodeError>
     ensures { answer_of result ≡ joined (immediate_word (limits target).low (limits target).high oper.imm oper.span) (immediate_word (limits segment).low (limits segment).high oper.displacement oper.span) }
 {
-    let span = oper.span;
-    let target = oper.imm;
-    let segment = oper.displacement;
-    if base_values::value_is_within(target, 0, 65535) {
-        if base_values::value_is_within(segment, 0, 65535) {
-            Fields {
-                prefix: Field::Absent,
-                opcode: Field::Word(base_values::low_word(target)),
-                modrm: Field::Absent,
-                value: Field::Word(base_values::low_word(segment)),
-                refusal: Refusal::None,
-            }
-        } else {
-            refuse_value(0, 65535, segment, span)
-        }
-    } else {
-        refuse_value(0, 65535, target, span)
-    }
+    require_within(0, 65535, oper.imm, oper.span)?;
+    require_within(0, 65535, oper.displacement, oper.span)?;
+    Ok(Fields {
+        prefix: None,
+        opcode: Some(Field::Word(base_values::low_word(oper.imm))),
+        modrm: None,
+        value: Some(Field::Word(base_values::low_word(oper.displacement))),
+    })
 }
 
 // An opcode with a register's number in its low bits.
@@ -230,12 +183,12 @@ fn other_of(insn: InstructionData, k: u8) -> OperandData
     if k == 0 { insn.opers[1] } else { insn.opers[0] }
 }
 
-// What one code emits.
-pub fn fields_of(insn: InstructionData, offset: u16, code: Code) -> Fields
+// What one code emits, or why it is refused.
+pub fn fields_of(insn: InstructionData, offset: u16, code: Code) -> Result<Fields, EncodeError>
     ensures { answer_of result ≡ code_answer code insn offset }
 {
     match code {
-        Code::Byte(byte) => value_field(Field::Byte(byte)),
+        Code::Byte(byte) => Ok(value_field(Field::Byte(byte))),
         Code::ImmByte(k) => {
             let oper = operand_of(insn, k);
             byte_within(-128, 255, oper.imm, oper.span)
@@ -252,20 +205,22 @@ pub fn fields_of(insn: InstructionData, offset: u16, code: Code) -> Fields
         Code::ModRegRM(k, op_code) => {
             let rm = operand_of(insn, k);
             let reg = other_of(insn, k);
-            mod_reg_rm(op_code, rm, reg.rm)
+            Ok(mod_reg_rm(op_code, rm, reg.rm))
         }
-        Code::ModRM(k, op_code, reg) => mod_reg_rm(op_code, operand_of(insn, k), reg),
+        Code::ModRM(k, op_code, reg) => Ok(mod_reg_rm(op_code, operand_of(insn, k), reg)),
         Code::RegByte(k, op_code) => {
             let oper = operand_of(insn, k);
-            value_field(Field::Byte(opcode_with_register(op_code, oper.rm)))
+            let opcode = opcode_with_register(op_code, oper.rm);
+            Ok(value_field(Field::Byte(opcode)))
         }
         Code::SegByte(k, op_code) => {
             let oper = operand_of(insn, k);
-            value_field(Field::Byte(opcode_with_segment(op_code, oper.rm)))
+            let opcode = opcode_with_segment(op_code, oper.rm);
+            Ok(value_field(Field::Byte(opcode)))
         }
         Code::MemByte(k, op_code) => {
             let oper = operand_of(insn, k);
-            prefixed_op_code(oper.segment_prefix, op_code)
+            Ok(prefixed_op_code(oper.segment_prefix, op_code))
         }
         Code::UnsignedByte(k) => {
             let oper = operand_of(insn, k);
@@ -277,7 +232,7 @@ pub fn fields_of(insn: InstructionData, offset: u16, code: Code) -> Fields
         }
         Code::ImmSignExtended(k) => {
             let oper = operand_of(insn, k);
-            value_field(Field::Byte(base_values::low_byte(oper.imm)))
+            Ok(value_field(Field::Byte(base_values::low_byte(oper.imm))))
         }
         Code::RelWord(k) => relative_word(operand_of(insn, k), offset),
         Code::FarWords(k) => far_words(operand_of(insn, k)),
@@ -296,14 +251,4 @@ pub fn high_half(word: u16) -> u8
     ensures { result ≡ word / 256 }
 {
     (word / 256) as u8
-}
-
-// Is there a refusal?
-pub fn is_refused(refusal: Refusal) -> bool
-    ensures { result ≡ is_refused refusal }
-{
-    match refusal {
-        Refusal::None => false,
-        Refusal::Because(_) => true,
-    }
 }

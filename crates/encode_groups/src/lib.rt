@@ -6,7 +6,7 @@ ghost use Rattle.encode_groups.specs.Grouping.{grouped_of};
 
 use mrc_compiler::operations::Operation;
 
-#[derive(Clone, Copy)]
+#[derive(Clone, Copy, Debug, PartialEq, Eq)]
 pub enum Group {
     // ADD OR ADC SBB AND SUB XOR CMP.
     Arithmetic,
@@ -47,7 +47,7 @@ pub enum Group {
 }
 
 // An operation's group, and what tells it from the others of the group: an opcode, or a digit.
-#[derive(Clone, Copy)]
+#[derive(Clone, Copy, Debug, PartialEq, Eq)]
 pub struct Grouped {
     pub group: Group,
     pub base: u8,

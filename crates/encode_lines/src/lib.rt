@@ -2,14 +2,13 @@
 #![tactic(auto)]
 
 ghost use Rattle.std.specs.Prelude.{◌≡◌, ◌+◌, ◌*◌, ◌%◌, ◌≤◌};
-ghost use Rattle.mrc_compiler.specs.declared.encoder.generate.Plan.TheVariants as P;
-ghost use Rattle.encode_lines.specs.Lines.{bit, immediate, one_code, two_codes, line_plan, plain, planned};
+ghost use Rattle.encode_lines.specs.Lines.{bit, immediate, one_code, two_codes, line_codes, plain, planned};
 
 use mrc_compiler::ast::DataSize;
-use mrc_compiler::encoder::generate::{At, Code, Codes, FIRST_OPER_DST, FIRST_OPER_SRC, Plan, Why};
+use mrc_compiler::encoder::generate::{Code, Codes, FIRST_OPER_DST, FIRST_OPER_SRC, NoForm};
 
-// A line of the table of forms (x86, specs/Forms): a form of a group, whatever its operation and its size; or why a record has none.
-#[derive(Clone, Copy)]
+// A line of the table of forms (x86, specs/Forms): a form of a group, whatever its operation and its size.
+#[derive(Clone, Copy, Debug, PartialEq, Eq)]
 pub enum Line {
     // ADD OR ADC SBB AND SUB XOR CMP: ModRM; 83; accumulator; 80 and 81.
     ArithRmReg,
@@ -84,33 +83,17 @@ pub enum Line {
 
     // The other single bytes.
     Single,
-
-    // No line: 1, at the instruction and at the first operand.
-    InvalidOperands,
-    InvalidFirst,
-
-    // 2, at the instruction and at the first operand; 3; 4 at the first operand.
-    SizeNotSpecified,
-    SizeNotSpecifiedFirst,
-    SizesDoNotMatch,
-    InvalidSize,
-
-    // 5: the immediate of JMP is no word.
-    TargetOutOfRange,
-
-    // 7: INT1 and ESC, where 000 reaches todo!.
-    NotSupported,
 }
 
-// What a group decides: the line of the form that a record takes, or why there is none, and its size (Word where the line has none). In 000
-// each group calls emit_codes itself.
-#[derive(Clone, Copy)]
+// What a group decides: the line of the form that a record takes, and its size (Word where the line has none). In 000 each group calls
+// emit_codes itself.
+#[derive(Clone, Copy, Debug, PartialEq, Eq)]
 pub struct Decision {
     pub line: Line,
     pub size: DataSize,
 }
 
-// A line without a size, or a refusal.
+// A line without a size.
 pub fn plain(line: Line) -> Decision
     ensures { result ≡ plain line }
 {
@@ -156,31 +139,29 @@ fn inc_opcode(base: u8) -> u8
 }
 
 // A list of one code.
-fn one(code: Code) -> Plan
-    ensures { result ≡ P.Emit (one_code code) }
+fn one(code: Code) -> Codes
+    ensures { result ≡ one_code code }
 {
-    Plan::Emit(Codes {
+    Codes {
         first: code,
-        second: code,
-        count: 1,
-    })
+        second: None,
+    }
 }
 
 // A list of two codes.
-fn two(first: Code, second: Code) -> Plan
-    ensures { result ≡ P.Emit (two_codes first second) }
+fn two(first: Code, second: Code) -> Codes
+    ensures { result ≡ two_codes first second }
 {
-    Plan::Emit(Codes {
+    Codes {
         first,
-        second,
-        count: 2,
-    })
+        second: Some(second),
+    }
 }
 
-// The code list of a line, with the low bit of its opcode, the code of its immediate and the base of its operation; or its refusal.
-fn line_plan(line: Line, w: u8, imm: Code, base: u8) -> Plan
+// The code list of a line, with the low bit of its opcode, the code of its immediate and the base of its operation.
+fn line_codes(line: Line, w: u8, imm: Code, base: u8) -> Codes
     requires { w ≤ 1 }
-    ensures { result ≡ line_plan line w imm base }
+    ensures { result ≡ line_codes line w imm base }
 {
     match line {
         Line::ArithRmReg => one(Code::ModRegRM(FIRST_OPER_DST, opcode(base, w))),
@@ -244,22 +225,13 @@ fn line_plan(line: Line, w: u8, imm: Code, base: u8) -> Plan
         Line::Ret => one(Code::Byte(0xC3)),
         Line::RetImm => two(Code::Byte(0xC2), Code::UnsignedWord(FIRST_OPER_DST)),
         Line::Single => one(Code::Byte(base)),
-        Line::InvalidOperands => Plan::Refused(Why::InvalidOperands, At::Operands),
-        Line::InvalidFirst => Plan::Refused(Why::InvalidOperands, At::First),
-        Line::SizeNotSpecified => Plan::Refused(Why::OperandSizeNotSpecified, At::Operands),
-        Line::SizeNotSpecifiedFirst => Plan::Refused(Why::OperandSizeNotSpecified, At::First),
-        Line::SizesDoNotMatch => Plan::Refused(Why::OperandSizesDoNotMatch, At::Operands),
-        Line::InvalidSize => Plan::Refused(Why::InvalidOperandSize, At::First),
-        Line::TargetOutOfRange => Plan::Refused(Why::TargetOutOfRange, At::First),
-        Line::NotSupported => Plan::Refused(Why::NotSupported, At::Operands),
     }
 }
 
 // The map from a form to its code list: what 000's group hands to emit_codes, or its refusal.
-pub fn plan_for(decision: Decision, base: u8) -> Plan
+pub fn plan_for(decision: Result<Decision, NoForm>, base: u8) -> Result<Codes, NoForm>
     ensures { result ≡ planned decision base }
 {
-    let line = decision.line;
-    let size = decision.size;
-    line_plan(line, word_bit(size), imm_code(size), base)
+    let Decision { line, size } = decision?;
+    Ok(line_codes(line, word_bit(size), imm_code(size), base))
 }

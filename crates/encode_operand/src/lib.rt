@@ -1,9 +1,8 @@
 // Question 1: is an operand well formed, and the repeat?
 #![tactic(auto)]
 
-ghost use Rattle.std.specs.Prelude.{◌≡◌, eqb, ◌<◌, true, false};
+ghost use Rattle.std.specs.Prelude.{◌≡◌, eqb, ◌<◌};
 ghost use Rattle.x86.specs.Reading.{displacement_length};
-ghost use Rattle.mrc_compiler.specs.Choose.{by_size};
 ghost use Rattle.mrc_compiler.specs.Operations.{is_string};
 ghost use Rattle.encode_spec.specs.WellFormed.{is_prefix, bytes_of, displacement_in, immediate_formed, register_formed, segment_formed, memory_formed, well_formed, repeat_formed};
 
@@ -32,8 +31,7 @@ fn displacement_fits(size: OperandSize, mode: u8, rm: u8) -> bool
 fn displacement_in(oper: OperandData) -> bool
     ensures { result ≡ displacement_in oper }
 {
-    let size = oper.displacement_size;
-    match size {
+    match oper.displacement_size {
         OperandSize::Unspecified => base_values::value_is_within(oper.displacement, 0, 0),
         OperandSize::Byte => base_values::value_is_within(oper.displacement, -128, 127),
         OperandSize::Word => base_values::value_is_within(oper.displacement, -32768, 65535),
@@ -41,137 +39,57 @@ fn displacement_in(oper: OperandData) -> bool
 }
 
 // No prefix, or one of the four.
+#[tactic(auto, unfolding(x86::specs::Reading::prefix))]
 fn is_prefix(p: u8) -> bool
     ensures { result ≡ is_prefix p }
 {
-    if p == 0 {
-        return true;
-    }
-    if p == 0x26 {
-        return true;
-    }
-    if p == 0x2E {
-        return true;
-    }
-    if p == 0x36 {
-        return true;
-    }
-    p == 0x3E
-}
-
-fn is_unspecified(size: OperandSize) -> bool
-    ensures { result ≡ by_size size true false false }
-{
-    match size {
-        OperandSize::Unspecified => true,
-        OperandSize::Byte => false,
-        OperandSize::Word => false,
-    }
-}
-
-fn is_word(size: OperandSize) -> bool
-    ensures { result ≡ by_size size false false true }
-{
-    match size {
-        OperandSize::Unspecified => false,
-        OperandSize::Byte => false,
-        OperandSize::Word => true,
-    }
+    p == 0 || p == 0x26 || p == 0x2E || p == 0x36 || p == 0x3E
 }
 
 fn immediate_is_well_formed(oper: OperandData) -> bool
     ensures { result ≡ immediate_formed oper }
 {
-    if oper.segment_prefix != 0 {
-        return false;
-    }
-    if oper.mode != 0 {
-        return false;
-    }
-    if oper.rm != 0 {
-        return false;
-    }
-    let size = oper.displacement_size;
-    is_unspecified(size)
+    oper.segment_prefix == 0
+        && oper.mode == 0
+        && oper.rm == 0
+        && matches!(oper.displacement_size, OperandSize::Unspecified)
 }
 
 fn register_is_well_formed(oper: OperandData) -> bool
     ensures { result ≡ register_formed oper }
 {
-    let mode = oper.mode;
-    let rm = oper.rm;
-    let size = oper.displacement_size;
-    if oper.segment_prefix != 0 {
-        return false;
-    }
-    if mode != 3 {
-        return false;
-    }
-    if 8 <= rm {
-        return false;
-    }
-    if displacement_fits(size, mode, rm) {
-        displacement_in(oper)
-    } else {
-        false
-    }
+    oper.segment_prefix == 0
+        && oper.mode == 3
+        && oper.rm < 8
+        && displacement_fits(oper.displacement_size, oper.mode, oper.rm)
+        && displacement_in(oper)
 }
 
 fn segment_is_well_formed(oper: OperandData) -> bool
     ensures { result ≡ segment_formed oper }
 {
-    let mode = oper.mode;
-    let rm = oper.rm;
-    let size = oper.displacement_size;
-    let stated = oper.size;
-    if oper.segment_prefix != 0 {
-        return false;
-    }
-    if mode != 3 {
-        return false;
-    }
-    if 4 <= rm {
-        return false;
-    }
-    if displacement_fits(size, mode, rm) {
-        if displacement_in(oper) {
-            is_word(stated)
-        } else {
-            false
-        }
-    } else {
-        false
-    }
+    oper.segment_prefix == 0
+        && oper.mode == 3
+        && oper.rm < 4
+        && displacement_fits(oper.displacement_size, oper.mode, oper.rm)
+        && displacement_in(oper)
+        && matches!(oper.size, OperandSize::Word)
 }
 
 fn memory_is_well_formed(oper: OperandData) -> bool
     ensures { result ≡ memory_formed oper }
 {
-    let mode = oper.mode;
-    let rm = oper.rm;
-    let size = oper.displacement_size;
-    if is_prefix(oper.segment_prefix) {
-        if 3 <= mode {
-            return false;
-        }
-        if 8 <= rm {
-            return false;
-        }
-        if displacement_fits(size, mode, rm) {
-            displacement_in(oper)
-        } else {
-            false
-        }
-    } else {
-        false
-    }
+    is_prefix(oper.segment_prefix)
+        && oper.mode < 3
+        && oper.rm < 8
+        && displacement_fits(oper.displacement_size, oper.mode, oper.rm)
+        && displacement_in(oper)
 }
 
 pub fn is_well_formed(oper: OperandData) -> bool
     ensures { result ≡ well_formed oper }
 {
-    let kind = oper.kind;
-    match kind {
+    match oper.kind {
         OperandKind::Imm => immediate_is_well_formed(oper),
         OperandKind::Reg => register_is_well_formed(oper),
         OperandKind::Seg => segment_is_well_formed(oper),
@@ -184,22 +102,12 @@ fn is_string(operation: Operation) -> bool
     ensures { result ≡ is_string operation }
 {
     let n = operation.number();
-    if n < 48 {
-        return false;
-    }
-    n <= 57
+    48 <= n && n <= 57
 }
 
 // No repeat, or one before a string operation.
 pub fn is_repeat_well_formed(repeat: u8, operation: Operation) -> bool
     ensures { result ≡ repeat_formed repeat operation }
 {
-    if repeat == 0 {
-        return true;
-    }
-    if x86::is_repeat(repeat) {
-        is_string(operation)
-    } else {
-        false
-    }
+    repeat == 0 || x86::is_repeat(repeat) && is_string(operation)
 }

@@ -9,6 +9,7 @@ use mathlib.Core.Logic.{◌⊎◌, inl, inr}
 use mathlib.Core.List.{List, [], ◌∷◌, Memᴰ}
 use lib.Dec.{eqb}
 use lib.IntN.{pos}
+use Rattle.std.specs.Prelude.{Result, Ok, Err, None, Option, Some}
 use Rattle.mrc_compiler.specs.declared.ast.DataSize.{DataSize}
 use Rattle.mrc_compiler.specs.declared.ast.DataSize.TheVariants as Z
 use Rattle.mrc_compiler.specs.declared.encoder.OperandData.{OperandData}
@@ -20,8 +21,8 @@ use Rattle.mrc_compiler.specs.declared.encoder.JumpKind.{JumpKind}
 use Rattle.mrc_compiler.specs.declared.encoder.JumpKind.TheVariants as J
 use Rattle.mrc_compiler.specs.declared.encoder.generate.At.{At}
 use Rattle.mrc_compiler.specs.declared.encoder.generate.At.TheVariants as At
-use Rattle.mrc_compiler.specs.declared.encoder.generate.Plan.{Plan}
-use Rattle.mrc_compiler.specs.declared.encoder.generate.Plan.TheVariants as P
+use Rattle.mrc_compiler.specs.declared.encoder.generate.Codes.{Codes}
+use Rattle.mrc_compiler.specs.declared.encoder.generate.NoForm.{NoForm}
 use Rattle.mrc_compiler.specs.declared.encoder.generate.Why.{Why}
 use Rattle.mrc_compiler.specs.declared.encoder.generate.Why.TheVariants as W
 use Rattle.mrc_compiler.specs.declared.operations.Operation.{Operation}
@@ -39,29 +40,27 @@ use Rattle.encode_spec.specs.Choice.{Choice, none, straight, takes, choose, is_e
 use Rattle.encode_spec.specs.Questions.{form_found, target_by, is_form, is_supported}
 use Rattle.encode_lines.specs.declared.Line.{Line}
 use Rattle.encode_lines.specs.declared.Line.TheVariants as L
-use Rattle.encode_lines.specs.Lines.{decision, plain, planned}
-use Rattle.encode_plans.specs.declared.Common.{Common}
-use Rattle.encode_plans.specs.declared.Common.TheVariants as M
+use Rattle.encode_lines.specs.Lines.{invalid_operands, invalid_first, not_supported, decision, planned}
 use Rattle.encode_plans.specs.Plans.{choice_plan, refusing, plan_in}
 use Rattle.encode_plans.specs.Sizes.{common_of, is_cl, is_dx, is_bx}
-use Rattle.encode_plans.specs.Decisions.{by_data, by_common, add_form, test_form, mov_form, xchg_form, load_form, short_form, takes_byte, acc_direct, is_ax, through_form, port_decision, decision_in}
-use Rattle.encode_plans.proofs.Laws.{CommonIs, common_is, both_no, both_swap, kind_no}
+use Rattle.encode_plans.specs.Decisions.{with_size, unsized, add_form, test_form, mov_form, xchg_form, load_form, short_form, takes_byte, acc_direct, is_ax, through_form, port_decision, decision_in}
+use Rattle.encode_plans.proofs.Laws.{CommonIs, shared, not_stated, unequal, common_is, both_no, both_swap, kind_no}
 
 -- ---- two operands of one size
 -- questions 5 to 7, once the size is settled
-abbrev sized_plan : Group → List Form → OperandSize → OperandData → OperandData → Plan
+abbrev sized_plan : Group → List Form → OperandSize → OperandData → OperandData → Result Codes NoForm
 sized_plan g fs w a b = let c = choose (is_either_way g a b) fs w a w b in refusing (form_found g c a b ∷ []) (choice_plan g c)
 
-by_common_lem : (g : Group) (fs : List Form) (k n : ℕ) (a b : OperandData) (f : DataSize → Line)
+with_size_lem : (g : Group) (fs : List Form) (k n : ℕ) (a b : OperandData) (f : DataSize → Result Line NoForm)
     → (rule g).sizing ≡ either_states → target_by (rule g).special a ≡ true → keep (count_by (rule g).special k) fs ≡ fs
     → ((z : DataSize) → planned (decision (f z) z) n ≡ sized_plan g fs (size_from_some z) a b)
-    → planned (by_common (common_of a.size b.size) f) n ≡ plan_in g fs k a b
-by_common_lem g fs k n a b f s t c h = go (common_of a.size b.size) (common_is a.size b.size)
+    → planned (with_size (common_of a.size b.size) f) n ≡ plan_in g fs k a b
+with_size_lem g fs k n a b f s t c h = go (common_of a.size b.size) (common_is a.size b.size)
   where
-    go : (m : Common) → CommonIs m a.size b.size → planned (by_common m f) n ≡ plan_in g fs k a b
-    go (M.Is z) (p, q, r) = rw (s, t, c, p, q, r) (h z)
-    go M.NotSpecified p = rw (s, p)
-    go M.DoNotMatch (p, q) = rw (s, p, q)
+    go : (m : Result DataSize NoForm) → CommonIs a.size b.size m → planned (with_size m f) n ≡ plan_in g fs k a b
+    go _ (shared z p q r) = rw (s, t, c, p, q, r) (h z)
+    go _ (not_stated p) = rw (s, p)
+    go _ (unequal p q) = rw (s, p, q)
 
 -- ---- ADD OR ADC SBB AND SUB XOR CMP
 module _ (op : Operation) (n : ℕ) (l : n + 5 < 256) (a b : OperandData) where
@@ -277,7 +276,7 @@ module _ (op : Operation) (n : ℕ) (a b : OperandData) where
   pop_law c S.Word K.Mem cs hs hk hc = rw (hs, hk)
 
   load_law : (g : Group) → rule g ≡ rule G.Lea → (s : OperandSize) (k j : OperandKind) → a.size ≡ s → a.kind ≡ k → b.kind ≡ j
-      → (c : ℕ) → planned (plain (load_form a.kind (is_word a.size) b.kind)) n ≡ plan_in g (F.load n op) c a b
+      → (c : ℕ) → planned (unsized (load_form a.kind (is_word a.size) b.kind)) n ≡ plan_in g (F.load n op) c a b
   load_law g e s K.Imm j hs hk hj c = rw (e, hk)
   load_law g e S.Unspecified K.Reg j hs hk hj c = rw (e, hs, hk)
   load_law g e S.Byte K.Reg j hs hk hj c = rw (e, hs, hk)
@@ -300,8 +299,8 @@ module _ (op : Operation) (n : ℕ) (a b : OperandData) where
   -- ---- IN and OUT: an accumulator x and a port y, and the four forms of the group
 
 -- a form that is found, or 1
-abbrev found_or_1 : Group → Choice → Plan
-found_or_1 g c = pick (is_form c) (choice_plan g c) (P.Refused W.InvalidOperands At.Operands)
+abbrev found_or_1 : Group → Choice → Result Codes NoForm
+found_or_1 g c = pick (is_form c) (choice_plan g c) (Err invalid_operands)
 
 abbrev port_choice : Form → Form → Form → Form → OperandData → OperandData → Choice
 port_choice fb fw db dw x y =
@@ -310,7 +309,7 @@ port_choice fb fw db dw x y =
     (pick (both (takes (F.acc F.byte) x.size x) (takes F.dx y.size y)) (straight db)
     (pick (both (takes (F.acc F.word) x.size x) (takes F.dx y.size y)) (straight dw) none)))
 
-module _ (n : ℕ) (g : Group) (li ld : Line) (fb fw db dw : Form) (x y : OperandData)
+module _ (n : ℕ) (g : Group) (li ld : Result Line NoForm) (fb fw db dw : Form) (x y : OperandData)
     (pb : planned (decision li Z.Byte) n ≡ choice_plan g (straight fb)) (pw : planned (decision li Z.Word) n ≡ choice_plan g (straight fw))
     (qb : planned (decision ld Z.Byte) n ≡ choice_plan g (straight db)) (qw : planned (decision ld Z.Word) n ≡ choice_plan g (straight dw)) where
   port_law : (s : OperandSize) (k j : OperandKind) (zero dx : Bool) → x.size ≡ s → x.kind ≡ k → y.kind ≡ j → eqb x.rm 0 ≡ zero → is_dx y.size y.rm ≡ dx
@@ -338,7 +337,7 @@ module _ (n : ℕ) (g : Group) (li ld : Line) (fb fw db dw : Form) (x y : Operan
 module _ (op : Operation) (n : ℕ) (a b : OperandData) where
   in_law : (c : ℕ) → planned (decision_in G.In c a b) n ≡ plan_in G.In (F.input op) c a b
   in_law c =
-      port_law n G.In L.InAccImm L.InAccDx (F.form 0xE4 F.no op (F.acc F.byte) F.ib) (F.form 0xE5 F.no op (F.acc F.word) F.ib)
+      port_law n G.In (Ok L.InAccImm) (Ok L.InAccDx) (F.form 0xE4 F.no op (F.acc F.byte) F.ib) (F.form 0xE5 F.no op (F.acc F.word) F.ib)
       (F.form 0xEC F.no op (F.acc F.byte) F.dx) (F.form 0xED F.no op (F.acc F.word) F.dx) a b refl refl refl refl
       a.size a.kind b.kind _ _ refl refl refl refl refl
 
@@ -350,89 +349,89 @@ module _ (op : Operation) (n : ℕ) (a b : OperandData) where
         both_swap (takes F.dx a.size a) (takes (F.acc F.byte) b.size b),
         both_swap (takes F.dx a.size a) (takes (F.acc F.word) b.size b),
       )
-      (port_law n G.Out L.OutImmAcc L.OutDxAcc (F.form 0xE6 F.no op F.ib (F.acc F.byte)) (F.form 0xE7 F.no op F.ib (F.acc F.word))
+      (port_law n G.Out (Ok L.OutImmAcc) (Ok L.OutDxAcc) (F.form 0xE6 F.no op F.ib (F.acc F.byte)) (F.form 0xE7 F.no op F.ib (F.acc F.word))
       (F.form 0xEE F.no op F.dx (F.acc F.byte)) (F.form 0xEF F.no op F.dx (F.acc F.word)) b a refl refl refl refl
       b.size b.kind a.kind _ _ refl refl refl refl refl)
 
   -- ---- CALL and JMP through a register or memory: near and no Byte, else what the kind of jump says
   -- 1
-  abbrev one : Plan
-  one = P.Refused W.InvalidOperands At.Operands
+  abbrev one : Result Codes NoForm
+  one = Err invalid_operands
 
-  through_law : (g : Group) (l far short : Line) (f : Form) (why : Why) (at : At) (j : JumpKind) (s : OperandSize) → planned (plain l) n ≡ choice_plan g (straight f)
-      → by_jump j one (planned (plain far) n) one (planned (plain short) n) ≡ P.Refused why at
+  through_law : (g : Group) (l far short : Result Line NoForm) (f : Form) (why : Why) (at : At) (j : Option JumpKind) (s : OperandSize) → planned (unsized l) n ≡ choice_plan g (straight f)
+      → by_jump j one (planned (unsized far) n) one (planned (unsized short) n) ≡ Err (record { why = why; at = at })
       → let c = pick (both (both (by_jump j true false true false) (by_size s true false true)) true) (straight f) none in
-      planned (plain (through_form l j s far short)) n ≡ pick (is_form c) (choice_plan g c) (P.Refused why at)
-  through_law g l far short f why at J.None S.Unspecified h r = h
-  through_law g l far short f why at J.None S.Byte h r = r
-  through_law g l far short f why at J.None S.Word h r = h
-  through_law g l far short f why at J.Far s h r = r
-  through_law g l far short f why at J.Near S.Unspecified h r = h
-  through_law g l far short f why at J.Near S.Byte h r = r
-  through_law g l far short f why at J.Near S.Word h r = h
-  through_law g l far short f why at J.Short s h r = r
+      planned (unsized (through_form l j s far short)) n ≡ pick (is_form c) (choice_plan g c) (Err (record { why = why; at = at }))
+  through_law g l far short f why at None S.Unspecified h r = h
+  through_law g l far short f why at None S.Byte h r = r
+  through_law g l far short f why at None S.Word h r = h
+  through_law g l far short f why at (Some J.Far) s h r = r
+  through_law g l far short f why at (Some J.Near) S.Unspecified h r = h
+  through_law g l far short f why at (Some J.Near) S.Byte h r = r
+  through_law g l far short f why at (Some J.Near) S.Word h r = h
+  through_law g l far short f why at (Some J.Short) s h r = r
 
   -- its refusals: of CALL through a register, of JMP
-  call_reg_refusal : (j : JumpKind) → by_jump j one one one one ≡ one
-  call_reg_refusal J.None = refl
-  call_reg_refusal J.Far = refl
-  call_reg_refusal J.Near = refl
-  call_reg_refusal J.Short = refl
+  call_reg_refusal : (j : Option JumpKind) → by_jump j one one one one ≡ one
+  call_reg_refusal None = refl
+  call_reg_refusal (Some J.Far) = refl
+  call_reg_refusal (Some J.Near) = refl
+  call_reg_refusal (Some J.Short) = refl
 
-  jmp_refusal : (j : JumpKind) → let r = pick (by_jump j false true false true) (at_first a b) (at_operands a b) in
-      by_jump j one (P.Refused W.InvalidOperands At.First) one (P.Refused W.InvalidOperands At.First) ≡ P.Refused r.why r.at
-  jmp_refusal J.None = refl
-  jmp_refusal J.Far = refl
-  jmp_refusal J.Near = refl
-  jmp_refusal J.Short = refl
+  jmp_refusal : (j : Option JumpKind) → let r = pick (by_jump j false true false true) (at_first a b) (at_operands a b) in
+      by_jump j one (Err invalid_first) one (Err invalid_first) ≡ Err (record { why = r.why; at = r.at })
+  jmp_refusal None = refl
+  jmp_refusal (Some J.Far) = refl
+  jmp_refusal (Some J.Near) = refl
+  jmp_refusal (Some J.Short) = refl
 
   -- through memory near or far
-  call_memory : (c : ℕ) (j : JumpKind) (s : OperandSize) → a.kind ≡ K.Mem → a.jmp_kind ≡ j → a.size ≡ s → planned (decision_in G.Call c a b) n ≡ plan_in G.Call (F.call op) c a b
-  call_memory c J.None S.Unspecified hk hj hs = rw (hk, hj, hs)
-  call_memory c J.None S.Byte hk hj hs = rw (hk, hj, hs)
-  call_memory c J.None S.Word hk hj hs = rw (hk, hj, hs)
-  call_memory c J.Far S.Unspecified hk hj hs = rw (hk, hj, hs)
-  call_memory c J.Far S.Byte hk hj hs = rw (hk, hj, hs)
-  call_memory c J.Far S.Word hk hj hs = rw (hk, hj, hs)
-  call_memory c J.Near S.Unspecified hk hj hs = rw (hk, hj, hs)
-  call_memory c J.Near S.Byte hk hj hs = rw (hk, hj, hs)
-  call_memory c J.Near S.Word hk hj hs = rw (hk, hj, hs)
-  call_memory c J.Short s hk hj hs = rw (hk, hj)
+  call_memory : (c : ℕ) (j : Option JumpKind) (s : OperandSize) → a.kind ≡ K.Mem → a.jmp_kind ≡ j → a.size ≡ s → planned (decision_in G.Call c a b) n ≡ plan_in G.Call (F.call op) c a b
+  call_memory c None S.Unspecified hk hj hs = rw (hk, hj, hs)
+  call_memory c None S.Byte hk hj hs = rw (hk, hj, hs)
+  call_memory c None S.Word hk hj hs = rw (hk, hj, hs)
+  call_memory c (Some J.Far) S.Unspecified hk hj hs = rw (hk, hj, hs)
+  call_memory c (Some J.Far) S.Byte hk hj hs = rw (hk, hj, hs)
+  call_memory c (Some J.Far) S.Word hk hj hs = rw (hk, hj, hs)
+  call_memory c (Some J.Near) S.Unspecified hk hj hs = rw (hk, hj, hs)
+  call_memory c (Some J.Near) S.Byte hk hj hs = rw (hk, hj, hs)
+  call_memory c (Some J.Near) S.Word hk hj hs = rw (hk, hj, hs)
+  call_memory c (Some J.Short) s hk hj hs = rw (hk, hj)
 
-  call_law : (c : ℕ) (k : OperandKind) (j : JumpKind) → a.kind ≡ k → a.jmp_kind ≡ j → planned (decision_in G.Call c a b) n ≡ plan_in G.Call (F.call op) c a b
-  call_law c K.Imm J.None hk hj = rw (hk, hj)
-  call_law c K.Imm J.Far hk hj = rw (hk, hj)
-  call_law c K.Imm J.Near hk hj = rw (hk, hj)
-  call_law c K.Imm J.Short hk hj = rw (hk, hj)
+  call_law : (c : ℕ) (k : OperandKind) (j : Option JumpKind) → a.kind ≡ k → a.jmp_kind ≡ j → planned (decision_in G.Call c a b) n ≡ plan_in G.Call (F.call op) c a b
+  call_law c K.Imm None hk hj = rw (hk, hj)
+  call_law c K.Imm (Some J.Far) hk hj = rw (hk, hj)
+  call_law c K.Imm (Some J.Near) hk hj = rw (hk, hj)
+  call_law c K.Imm (Some J.Short) hk hj = rw (hk, hj)
   call_law c K.Reg j hk hj =
-      rw hk (through_law G.Call L.CallRm L.InvalidOperands L.InvalidOperands (F.form 0xFF (F./ 2) op F.rm_near F.nil) W.InvalidOperands At.Operands
+      rw hk (through_law G.Call (Ok L.CallRm) (Err invalid_operands) (Err invalid_operands) (F.form 0xFF (F./ 2) op F.rm_near F.nil) W.InvalidOperands At.Operands
       a.jmp_kind a.size refl (call_reg_refusal a.jmp_kind))
   call_law c K.Seg j hk hj = rw hk
   call_law c K.Mem j hk hj = call_memory c _ _ hk refl refl
 
-  jmp_law : (c : ℕ) (k : OperandKind) (j : JumpKind) (word : Bool) → a.kind ≡ k → a.jmp_kind ≡ j → within (pos 0) (pos 65535) a.imm ≡ word
+  jmp_law : (c : ℕ) (k : OperandKind) (j : Option JumpKind) (word : Bool) → a.kind ≡ k → a.jmp_kind ≡ j → within (pos 0) (pos 65535) a.imm ≡ word
       → planned (decision_in G.Jmp c a b) n ≡ plan_in G.Jmp (F.jump op) c a b
   jmp_law c K.Imm j false hk hj hw = rw (hk, hw)
-  jmp_law c K.Imm J.None true hk hj hw = rw (hk, hj, hw)
-  jmp_law c K.Imm J.Far true hk hj hw = rw (hk, hj, hw)
-  jmp_law c K.Imm J.Near true hk hj hw = rw (hk, hj, hw)
-  jmp_law c K.Imm J.Short true hk hj hw = rw (hk, hj, hw)
+  jmp_law c K.Imm None true hk hj hw = rw (hk, hj, hw)
+  jmp_law c K.Imm (Some J.Far) true hk hj hw = rw (hk, hj, hw)
+  jmp_law c K.Imm (Some J.Near) true hk hj hw = rw (hk, hj, hw)
+  jmp_law c K.Imm (Some J.Short) true hk hj hw = rw (hk, hj, hw)
   jmp_law c K.Reg j word hk hj hw =
-      rw hk (through_law G.Jmp L.JmpRm L.InvalidFirst L.InvalidFirst (F.form 0xFF (F./ 4) op F.rm_near F.nil) _ _
+      rw hk (through_law G.Jmp (Ok L.JmpRm) (Err invalid_first) (Err invalid_first) (F.form 0xFF (F./ 4) op F.rm_near F.nil) _ _
       a.jmp_kind a.size refl (jmp_refusal a.jmp_kind))
   jmp_law c K.Seg j word hk hj hw = rw hk
   jmp_law c K.Mem j word hk hj hw =
-      rw hk (through_law G.Jmp L.JmpRm L.InvalidFirst L.InvalidFirst (F.form 0xFF (F./ 4) op F.rm_near F.nil) _ _
+      rw hk (through_law G.Jmp (Ok L.JmpRm) (Err invalid_first) (Err invalid_first) (F.form 0xFF (F./ 4) op F.rm_near F.nil) _ _
       a.jmp_kind a.size refl (jmp_refusal a.jmp_kind))
 
   -- ---- Jcc and the loops, INT, RET
-  short_law : (g : Group) (at : At) (r : Line) → planned (plain r) n ≡ P.Refused W.InvalidOperands at → (rule g).sizing ≡ unasked → (rule g).special ≡ ordinary → (rule g).without_form a b ≡ refusal W.InvalidOperands at
-      → (c : ℕ) (k : OperandKind) (j : JumpKind) → a.kind ≡ k → a.jmp_kind ≡ j
-      → planned (plain (short_form a.kind a.jmp_kind r)) n ≡ plan_in g (F.short n op ∷ []) c a b
-  short_law g at r i e x w c K.Imm J.None hk hj = rw (e, x, w, hk, hj)
-  short_law g at r i e x w c K.Imm J.Far hk hj = rw (e, x, w, hk, hj, i)
-  short_law g at r i e x w c K.Imm J.Near hk hj = rw (e, x, w, hk, hj, i)
-  short_law g at r i e x w c K.Imm J.Short hk hj = rw (e, x, w, hk, hj)
+  short_law : (g : Group) (at : At) (r : Result Line NoForm) → planned (unsized r) n ≡ Err (record { why = W.InvalidOperands; at = at }) → (rule g).sizing ≡ unasked → (rule g).special ≡ ordinary → (rule g).without_form a b ≡ refusal W.InvalidOperands at
+      → (c : ℕ) (k : OperandKind) (j : Option JumpKind) → a.kind ≡ k → a.jmp_kind ≡ j
+      → planned (unsized (short_form a.kind a.jmp_kind r)) n ≡ plan_in g (F.short n op ∷ []) c a b
+  short_law g at r i e x w c K.Imm None hk hj = rw (e, x, w, hk, hj)
+  short_law g at r i e x w c K.Imm (Some J.Far) hk hj = rw (e, x, w, hk, hj, i)
+  short_law g at r i e x w c K.Imm (Some J.Near) hk hj = rw (e, x, w, hk, hj, i)
+  short_law g at r i e x w c K.Imm (Some J.Short) hk hj = rw (e, x, w, hk, hj)
   short_law g at r i e x w c K.Reg j hk hj = rw (e, x, w, hk, i)
   short_law g at r i e x w c K.Seg j hk hj = rw (e, x, w, hk, i)
   short_law g at r i e x w c K.Mem j hk hj = rw (e, x, w, hk, i)
@@ -453,15 +452,15 @@ module _ (op : Operation) (n : ℕ) (a b : OperandData) where
 -- ---- every group
 -- what a group decides is its plan with its block of the table; its opcodes are bytes
 pub decided : (g : Group) (n : ℕ) (op : Operation) (c : ℕ) (a b : OperandData) → ((f : Form) → Memᴰ f (block g n op) → f.opcode < 256)
-    → planned (decision_in g c a b) n ≡ pick (is_supported g) (plan_in g (block g n op) c a b) (P.Refused W.NotSupported At.Operands)
+    → planned (decision_in g c a b) n ≡ pick (is_supported g) (plan_in g (block g n op) c a b) (Err not_supported)
 unfolding block
 decided G.Arithmetic n op c a b h =
     let l : n + 5 < 256 = h (F.form (n + 5) F.no op (F.acc F.word) F.iw) (Memᴰ.tail (Memᴰ.tail (Memᴰ.tail (Memᴰ.tail (Memᴰ.tail (Memᴰ.tail (Memᴰ.head refl))))))) in
-    by_common_lem G.Arithmetic (F.arithmetic n op) c n a b _ refl refl refl (λ z. add_law op n l a b z a.kind b.kind refl refl)
+    with_size_lem G.Arithmetic (F.arithmetic n op) c n a b _ refl refl refl (λ z. add_law op n l a b z a.kind b.kind refl refl)
 decided G.Unary n op c a b h = unary_law op n a b c a.size a.kind refl refl
-decided G.Mov n op c a b h = by_common_lem G.Mov (F.move op) c n a b _ refl refl refl (λ z. mov_law op n a b z a.kind b.kind refl refl)
-decided G.Test n op c a b h = by_common_lem G.Test (F.test op) c n a b _ refl refl refl (λ z. test_law op n a b z a.kind b.kind refl refl)
-decided G.Xchg n op c a b h = by_common_lem G.Xchg (F.exchange op) c n a b _ refl refl refl (λ z. xchg_law op n a b z a.kind b.kind refl refl)
+decided G.Mov n op c a b h = with_size_lem G.Mov (F.move op) c n a b _ refl refl refl (λ z. mov_law op n a b z a.kind b.kind refl refl)
+decided G.Test n op c a b h = with_size_lem G.Test (F.test op) c n a b _ refl refl refl (λ z. test_law op n a b z a.kind b.kind refl refl)
+decided G.Xchg n op c a b h = with_size_lem G.Xchg (F.exchange op) c n a b _ refl refl refl (λ z. xchg_law op n a b z a.kind b.kind refl refl)
 decided G.IncDec n op c a b h = inc_law op n a b (h (F.form (0x40 + 8 * n) F.+r op (F.low3 F.word) F.nil) (Memᴰ.head refl)) c a.size a.kind refl refl
 decided G.Push n op c a b h = push_law op n a b c a.size a.kind refl refl
 decided G.Pop n op c a b h = pop_law op n a b c a.size a.kind _ refl refl refl
@@ -471,8 +470,8 @@ decided G.LesLds n op c a b h = load_law op n a b G.LesLds refl a.size a.kind b.
 decided G.Shift n op c a b h = shift_law op n a b c a.size a.kind refl refl
 decided G.Call n op c a b h = call_law op n a b c a.kind a.jmp_kind refl refl
 decided G.Jmp n op c a b h = jmp_law op n a b c a.kind a.jmp_kind _ refl refl refl
-decided G.Jcc n op c a b h = short_law op n a b G.Jcc At.First L.InvalidFirst refl refl refl refl c a.kind a.jmp_kind refl refl
-decided G.Loopc n op c a b h = short_law op n a b G.Loopc At.Operands L.InvalidOperands refl refl refl refl c a.kind a.jmp_kind refl refl
+decided G.Jcc n op c a b h = short_law op n a b G.Jcc At.First (Err invalid_first) refl refl refl refl c a.kind a.jmp_kind refl refl
+decided G.Loopc n op c a b h = short_law op n a b G.Loopc At.Operands (Err invalid_operands) refl refl refl refl c a.kind a.jmp_kind refl refl
 decided G.NoOperands n op c a b h = refl
 decided G.Prefixes n op c a b h = refl
 decided G.Int n op c a b h = int_law op n a b c a.kind refl

@@ -2,8 +2,8 @@
 -- Assumes nothing.
 use mathlib.Core.Path.{◌≡◌, refl}
 use mathlib.Core.Bool.{Bool, true, false}
+use Rattle.std.specs.Prelude.{Result, Ok, Err}
 use Rattle.mrc_compiler.specs.declared.ast.DataSize.{DataSize}
-use Rattle.mrc_compiler.specs.declared.ast.DataSize.TheVariants as Z
 use Rattle.mrc_compiler.specs.declared.encoder.OperandKind.{OperandKind}
 use Rattle.mrc_compiler.specs.declared.encoder.OperandKind.TheVariants as K
 use Rattle.mrc_compiler.specs.declared.encoder.OperandSize.{OperandSize}
@@ -12,29 +12,26 @@ use Rattle.mrc_compiler.specs.Builders.{is_specified, size_from_some}
 use Rattle.mrc_compiler.specs.Choose.{both, either, by_kind}
 use Rattle.encode_spec.specs.Records.{stated_of}
 use Rattle.encode_spec.specs.Questions.{agree}
-use Rattle.encode_plans.specs.declared.Common.{Common}
-use Rattle.encode_plans.specs.declared.Common.TheVariants as M
+use Rattle.mrc_compiler.specs.declared.encoder.generate.NoForm.{NoForm}
+use Rattle.encode_lines.specs.Lines.{size_not_specified, sizes_do_not_match}
 use Rattle.encode_plans.specs.Sizes.{common_of}
 
--- both questions get yes, and the size is w
-abbrev pub Settled : OperandSize → OperandSize → OperandSize → Type 0
-Settled w s t = (either (is_specified s) (is_specified t) ≡ true) × (agree s t ≡ true) × (stated_of s t ≡ w)
+-- what the answer says of two sizes: both questions get yes and the size is z, question 3 gets no, or question 4
+pub data CommonIs (s t : OperandSize) : Result DataSize NoForm → Type 0 where
+  shared : (z : DataSize) → either (is_specified s) (is_specified t) ≡ true → agree s t ≡ true → stated_of s t ≡ size_from_some z → CommonIs s t (Ok z)
+  not_stated : either (is_specified s) (is_specified t) ≡ false → CommonIs s t (Err size_not_specified)
+  unequal : either (is_specified s) (is_specified t) ≡ true → agree s t ≡ false → CommonIs s t (Err sizes_do_not_match)
 
-abbrev pub CommonIs : Common → OperandSize → OperandSize → Type 0
-CommonIs (M.Is z) s t = Settled (size_from_some z) s t
-CommonIs M.NotSpecified s t = either (is_specified s) (is_specified t) ≡ false
-CommonIs M.DoNotMatch s t = (either (is_specified s) (is_specified t) ≡ true) × (agree s t ≡ false)
-
-pub common_is : (s t : OperandSize) → CommonIs (common_of s t) s t
-common_is S.Unspecified S.Unspecified = refl
-common_is S.Unspecified S.Byte = (refl, refl, refl)
-common_is S.Unspecified S.Word = (refl, refl, refl)
-common_is S.Byte S.Unspecified = (refl, refl, refl)
-common_is S.Byte S.Byte = (refl, refl, refl)
-common_is S.Byte S.Word = (refl, refl)
-common_is S.Word S.Unspecified = (refl, refl, refl)
-common_is S.Word S.Byte = (refl, refl)
-common_is S.Word S.Word = (refl, refl, refl)
+pub common_is : (s t : OperandSize) → CommonIs s t (common_of s t)
+common_is S.Unspecified S.Unspecified = not_stated refl
+common_is S.Unspecified S.Byte = shared _ refl refl refl
+common_is S.Unspecified S.Word = shared _ refl refl refl
+common_is S.Byte S.Unspecified = shared _ refl refl refl
+common_is S.Byte S.Byte = shared _ refl refl refl
+common_is S.Byte S.Word = unequal refl refl
+common_is S.Word S.Unspecified = shared _ refl refl refl
+common_is S.Word S.Byte = unequal refl refl
+common_is S.Word S.Word = shared _ refl refl refl
 
 -- a conjunction whose second part fails
 pub both_no : (t : Bool) → both t false ≡ false

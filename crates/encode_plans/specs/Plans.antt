@@ -1,14 +1,12 @@
 -- The code lists of 003: how a form with its operands is handed to emit_codes, and what a group answers.
 -- Definitions only.
-use Rattle.std.specs.Prelude.{ℕ, Bool, true, false, List, [], ◌∷◌, ◌++◌}
+use Rattle.std.specs.Prelude.{ℕ, Bool, true, false, List, [], ◌∷◌, ◌++◌, Result, Ok, Err}
 use Rattle.mrc_compiler.specs.declared.encoder.InstructionData.{InstructionData}
 use Rattle.mrc_compiler.specs.declared.encoder.OperandData.{OperandData}
 use Rattle.mrc_compiler.specs.declared.encoder.generate.Code.{Code}
 use Rattle.mrc_compiler.specs.declared.encoder.generate.Code.TheVariants as C
-use Rattle.mrc_compiler.specs.declared.encoder.generate.Plan.{Plan}
-use Rattle.mrc_compiler.specs.declared.encoder.generate.Plan.TheVariants as P
-use Rattle.mrc_compiler.specs.declared.encoder.generate.Why.TheVariants as W
-use Rattle.mrc_compiler.specs.declared.encoder.generate.At.TheVariants as At
+use Rattle.mrc_compiler.specs.declared.encoder.generate.Codes.{Codes}
+use Rattle.mrc_compiler.specs.declared.encoder.generate.NoForm.{NoForm}
 use Rattle.mrc_compiler.specs.Choose.{pick}
 use Rattle.x86.specs.Forms.{Slot, rm, rm_near, mem, mem_far, reg, sreg, sreg_not_cs, acc, low3, bits34, bits34_not_cs, cl, dx, one, moffs, xlat, ib, iw, ib_sx, cb, cw, ptr, nil, Extension, Form}
 use Rattle.x86.specs.Forms as F
@@ -19,7 +17,7 @@ use Rattle.encode_groups.specs.Grouping.{group_of}
 use Rattle.encode_spec.specs.Limits.{Kind, data_byte, data_word, sign_extended, vector, port, popped, address, target, segment, byte_kind, word_kind}
 use Rattle.encode_spec.specs.Choice.{Choice, none, straight, crossed, choice, forms_of}
 use Rattle.encode_spec.specs.Questions.{Ask, group_asks, is_supported}
-use Rattle.encode_lines.specs.Lines.{one_code, two_codes}
+use Rattle.encode_lines.specs.Lines.{one_code, two_codes, not_supported}
 
 -- ---- a form's codes; i and j say which operands stand in its slots
 -- the code of an immediate
@@ -119,35 +117,35 @@ fixed F./r = []
 fixed (F./ n) = []
 fixed F.0A = C.Byte 0x0A ∷ []
 
-abbrev pub emitting : Code → List Code → Plan
-emitting c [] = P.Emit (one_code c)
-emitting c (d ∷ ds) = P.Emit (two_codes c d)
+abbrev pub emitting : Code → List Code → Result Codes NoForm
+emitting c [] = Ok (one_code c)
+emitting c (d ∷ ds) = Ok (two_codes c d)
 
-abbrev pub form_plan : Group → Form → ℕ → ℕ → Plan
+abbrev pub form_plan : Group → Form → ℕ → ℕ → Result Codes NoForm
 form_plan g f i j =
     emitting (head f.extension f.opcode f.first f.second i j)
     (fixed f.extension ++ (tail g f.first i ++ tail g f.second j))
 
 -- ---- a group's answer: the first of its questions that gets no, or the codes of the form chosen
-abbrev pub choice_plan : Group → Choice → Plan
-choice_plan g none = P.Emit (one_code (C.Byte 0))  -- never: question 5 has said no
+abbrev pub choice_plan : Group → Choice → Result Codes NoForm
+choice_plan g none = Ok (one_code (C.Byte 0))  -- never: question 5 has said no
 choice_plan g (straight f) = form_plan g f 0 1
 choice_plan g (crossed f) = form_plan g f 1 0
 
-abbrev pub refusing : List Ask → Plan → Plan
+abbrev pub refusing : List Ask → Result Codes NoForm → Result Codes NoForm
 refusing [] p = p
-refusing (q ∷ qs) p = pick q.yes (refusing qs p) (P.Refused q.why q.at)
+refusing (q ∷ qs) p = pick q.yes (refusing qs p) (Err (record { why = q.why; at = q.at }))
 
 -- the plan of a group for operands a and b, where c is the form chosen
-abbrev pub plan_for : Group → Choice → OperandData → OperandData → Plan
+abbrev pub plan_for : Group → Choice → OperandData → OperandData → Result Codes NoForm
 plan_for g c a b = refusing (group_asks g c a b) (choice_plan g c)
 
 -- the plan of a group with these forms for a record
-abbrev pub plan_in : Group → List Form → ℕ → OperandData → OperandData → Plan
+abbrev pub plan_in : Group → List Form → ℕ → OperandData → OperandData → Result Codes NoForm
 plan_in g fs k a b = plan_for g (choice g fs k a b) a b
 
 -- what the encoder's dispatch answers: question 2, then the record's group with the forms of its operation
-unfoldable pub plan_of : InstructionData → Plan
+unfoldable pub plan_of : InstructionData → Result Codes NoForm
 plan_of insn =
     let op = insn.operation in
-    pick (is_supported (group_of op)) (plan_in (group_of op) (forms_of op) insn.num_opers (dst insn) (src insn)) (P.Refused W.NotSupported At.Operands)
+    pick (is_supported (group_of op)) (plan_in (group_of op) (forms_of op) insn.num_opers (dst insn) (src insn)) (Err not_supported)

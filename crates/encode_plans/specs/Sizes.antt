@@ -1,24 +1,24 @@
 -- What common_operand_size answers, and the small tests of the groups.
 -- Definitions only.
-use Rattle.std.specs.Prelude.{ℕ, Bool, true, false, eqb}
+use Rattle.std.specs.Prelude.{ℕ, Bool, true, false, eqb, Result, Ok, Err}
+use Rattle.mrc_compiler.specs.declared.ast.DataSize.{DataSize}
 use Rattle.mrc_compiler.specs.declared.ast.DataSize.TheVariants as Z
-use Rattle.mrc_compiler.specs.declared.ast.OptionDataSize.{OptionDataSize}
-use Rattle.mrc_compiler.specs.declared.ast.OptionDataSize.TheVariants as OZ
 use Rattle.mrc_compiler.specs.declared.encoder.OperandSize.{OperandSize}
 use Rattle.mrc_compiler.specs.Choose.{both, by_size}
-use Rattle.encode_plans.specs.declared.Common.{Common}
-use Rattle.encode_plans.specs.declared.Common.TheVariants as M
+use Rattle.mrc_compiler.specs.declared.encoder.generate.NoForm.{NoForm}
+use Rattle.encode_lines.specs.Lines.{size_not_specified, sizes_do_not_match}
 
 -- questions 3 and 4 for two operands: the size that they share, or which of the two gets no
-abbrev pub common_of : OperandSize → OperandSize → Common
+abbrev pub common_of : OperandSize → OperandSize → Result DataSize NoForm
 common_of a b =
     by_size a
-    (by_size b M.NotSpecified (M.Is Z.Byte) (M.Is Z.Word))
-    (by_size b (M.Is Z.Byte) (M.Is Z.Byte) M.DoNotMatch)
-    (by_size b (M.Is Z.Word) M.DoNotMatch (M.Is Z.Word))
+    (by_size b (Err size_not_specified) (Ok Z.Byte) (Ok Z.Word))
+    (by_size b (Ok Z.Byte) (Ok Z.Byte) (Err sizes_do_not_match))
+    (by_size b (Ok Z.Word) (Err sizes_do_not_match) (Ok Z.Word))
 
-abbrev pub stated_size : OperandSize → OptionDataSize
-stated_size a = by_size a OZ.None (OZ.Some Z.Byte) (OZ.Some Z.Word)
+-- the size that an operand states, or why its group has no form for it
+abbrev pub stated_size : OperandSize → NoForm → Result DataSize NoForm
+stated_size a e = by_size a (Err e) (Ok Z.Byte) (Ok Z.Word)
 
 -- CL, DX, and [BX] without displacement
 abbrev pub is_cl : OperandSize → ℕ → Bool

@@ -8,114 +8,68 @@ ghost use Rattle.mrc_compiler.specs.Values.{within};
 ghost use Rattle.encode_spec.specs.Rules.{is_word};
 ghost use Rattle.encode_plans.specs.Sizes.{common_of, stated_size, is_cl, is_dx, is_bx};
 
-use mrc_compiler::ast::{DataSize, OptionDataSize};
+use mrc_compiler::ast::DataSize;
 use mrc_compiler::encoder;
 use mrc_compiler::encoder::OperandSize;
-
-// The Rust's Result<OperandSize, EncodeError> of common_operand_size.
-#[derive(Clone, Copy)]
-pub enum Common {
-    Is(DataSize),
-    NotSpecified,
-    DoNotMatch,
-}
+use mrc_compiler::encoder::generate::NoForm;
 
 // The size that two operands share.
-pub fn common_operand_size(dst: OperandSize, src: OperandSize) -> Common
+pub fn common_operand_size(dst: OperandSize, src: OperandSize) -> Result<DataSize, NoForm>
     ensures { result ≡ common_of dst src }
 {
-    match dst {
-        OperandSize::Unspecified => match src {
-            OperandSize::Unspecified => Common::NotSpecified,
-            OperandSize::Byte => Common::Is(DataSize::Byte),
-            OperandSize::Word => Common::Is(DataSize::Word),
-        },
-        OperandSize::Byte => match src {
-            OperandSize::Unspecified => Common::Is(DataSize::Byte),
-            OperandSize::Byte => Common::Is(DataSize::Byte),
-            OperandSize::Word => Common::DoNotMatch,
-        },
-        OperandSize::Word => match src {
-            OperandSize::Unspecified => Common::Is(DataSize::Word),
-            OperandSize::Byte => Common::DoNotMatch,
-            OperandSize::Word => Common::Is(DataSize::Word),
-        },
+    match (dst, src) {
+        (OperandSize::Unspecified, OperandSize::Unspecified) => Err(NoForm::SIZE_NOT_SPECIFIED),
+        (OperandSize::Unspecified | OperandSize::Byte, OperandSize::Byte) => Ok(DataSize::Byte),
+        (OperandSize::Byte, OperandSize::Unspecified) => Ok(DataSize::Byte),
+        (OperandSize::Unspecified | OperandSize::Word, OperandSize::Word) => Ok(DataSize::Word),
+        (OperandSize::Word, OperandSize::Unspecified) => Ok(DataSize::Word),
+        (OperandSize::Byte, OperandSize::Word) | (OperandSize::Word, OperandSize::Byte) => {
+            Err(NoForm::SIZES_DO_NOT_MATCH)
+        }
     }
 }
 
-// The size that an operand states.
-pub fn stated_size(size: OperandSize) -> OptionDataSize
-    ensures { result ≡ stated_size size }
+// The size that an operand states, or why its group has no form for it.
+pub fn stated_size(size: OperandSize, no_form: NoForm) -> Result<DataSize, NoForm>
+    ensures { result ≡ stated_size size no_form }
 {
     match size {
-        OperandSize::Unspecified => OptionDataSize::None,
-        OperandSize::Byte => OptionDataSize::Some(DataSize::Byte),
-        OperandSize::Word => OptionDataSize::Some(DataSize::Word),
+        OperandSize::Unspecified => Err(no_form),
+        OperandSize::Byte => Ok(DataSize::Byte),
+        OperandSize::Word => Ok(DataSize::Word),
     }
 }
 
 pub fn is_word(size: OperandSize) -> bool
     ensures { result ≡ is_word size }
 {
-    match size {
-        OperandSize::Unspecified => false,
-        OperandSize::Byte => false,
-        OperandSize::Word => true,
-    }
-}
-
-// Register 0 (AL, AX), or a count of 0.
-pub fn is_zero(n: u8) -> bool
-    ensures { result ≡ eqb n 0 }
-{
-    n == 0
-}
-
-// Segment register 1, CS.
-pub fn is_cs(rm: u8) -> bool
-    ensures { result ≡ eqb rm 1 }
-{
-    rm == 1
+    matches!(size, OperandSize::Word)
 }
 
 pub fn is_cl(size: OperandSize, rm: u8) -> bool
     ensures { result ≡ is_cl size rm }
 {
-    match size {
-        OperandSize::Unspecified => false,
-        OperandSize::Byte => rm == 1,
-        OperandSize::Word => false,
-    }
+    matches!(size, OperandSize::Byte) && rm == 1
 }
 
 pub fn is_dx(size: OperandSize, rm: u8) -> bool
     ensures { result ≡ is_dx size rm }
 {
-    match size {
-        OperandSize::Unspecified => false,
-        OperandSize::Byte => false,
-        OperandSize::Word => rm == 2,
-    }
+    matches!(size, OperandSize::Word) && rm == 2
 }
 
 // [BX] without displacement, the address of XLATB.
 pub fn is_bx(mode: u8, rm: u8) -> bool
     ensures { result ≡ is_bx mode rm }
 {
-    if mode != 0 {
-        return false;
-    }
-    rm == 7
+    mode == 0 && rm == 7
 }
 
 // Register 0 beside an address without a base: MOV's A0 to A3.
 pub fn is_acc_direct(acc: u8, mode: u8, rm: u8) -> bool
     ensures { result ≡ both (eqb acc 0) (is_direct_address mode rm) }
 {
-    if acc != 0 {
-        return false;
-    }
-    encoder::is_direct_address(mode, rm)
+    acc == 0 && encoder::is_direct_address(mode, rm)
 }
 
 // A shift's immediate count.

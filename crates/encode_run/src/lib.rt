@@ -5,7 +5,7 @@ ghost use Rattle.std.specs.Prelude.{◌≡◌};
 ghost use Rattle.encode_run.specs.Run.{empty_run, pushed};
 
 // Seven bytes and how many of them are there.
-#[derive(Clone, Copy)]
+#[derive(Clone, Copy, Debug, PartialEq, Eq)]
 pub struct ByteRun {
     pub bytes: [u8; 7],
     pub len: usize,
@@ -15,24 +15,17 @@ pub fn empty_run() -> ByteRun
     ensures { result ≡ empty_run }
 {
     ByteRun {
-        bytes: [0, 0, 0, 0, 0, 0, 0],
+        bytes: [0; 7],
         len: 0,
     }
 }
 
 // One byte more; a full run stays as it is.
-pub fn push(run: ByteRun, byte: u8) -> ByteRun
+pub fn push(mut run: ByteRun, byte: u8) -> ByteRun
     ensures { result ≡ pushed run byte }
 {
-    let at = run.len;
-    if at < 7 {
-        let mut next = run;
-        next.bytes[at] = byte;
-        next.len = at + 1;
-        next
-    } else {
-        run
-    }
+    run.emit(byte);
+    run
 }
 
 impl ByteRun {
@@ -40,6 +33,9 @@ impl ByteRun {
     pub fn emit(&mut self, byte: u8)
         ensures { self.new ≡ pushed self.old byte }
     {
-        *self = push(*self, byte);
+        if self.len < 7 {
+            self.bytes[self.len] = byte;
+            self.len += 1;
+        }
     }
 }

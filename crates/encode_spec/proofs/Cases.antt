@@ -1,18 +1,16 @@
 -- The bench sheet's encoder rows (document 01) and those of document 02's Nos. 1, 2, 4 and 11, at every offset where the row names none. P marks the rows that 01 marks.
 -- Assumes nothing.
+use Rattle.std.specs.Prelude.{None, Option, Some, Err, Ok}
 use mathlib.Core.Path.{◌≡◌, refl}
 use mathlib.Core.Bool.{true}
 use mathlib.Core.List.{[], ◌∷◌}
 use Prim.Native.Nat.{ℕ}
 use lib.IntN.{ℤ, pos, negsuc}
+use Rattle.mrc_compiler.specs.declared.ast.DataSize.{DataSize}
 use Rattle.mrc_compiler.specs.declared.ast.Span.{Span}
-use Rattle.mrc_compiler.specs.declared.ast.OptionDataSize.{OptionDataSize}
-use Rattle.mrc_compiler.specs.declared.ast.OptionDataSize.TheVariants as OD
 use Rattle.mrc_compiler.specs.declared.ast.DataSize.TheVariants as D
-use Rattle.mrc_compiler.specs.declared.ast.OptionSegment.TheVariants as OG
 use Rattle.mrc_compiler.specs.declared.encoder.EncodeError.{EncodeError}
 use Rattle.mrc_compiler.specs.declared.encoder.EncodeError.TheVariants as E
-use Rattle.mrc_compiler.specs.declared.encoder.Encoded.TheVariants as N
 use Rattle.mrc_compiler.specs.declared.encoder.InstructionData.{InstructionData}
 use Rattle.mrc_compiler.specs.declared.encoder.JumpKind.{JumpKind}
 use Rattle.mrc_compiler.specs.declared.encoder.JumpKind.TheVariants as J
@@ -62,7 +60,7 @@ abbrev to : Operation → ℤ → InstructionData
 to op z = with_one op (immediate_operand one z)
 
 -- an operand with this kind of jump
-abbrev of_kind : JumpKind → OperandData → OperandData
+abbrev of_kind : Option JumpKind → OperandData → OperandData
 of_kind j o = record {
   span = o.span;
   kind = o.kind;
@@ -76,14 +74,14 @@ of_kind j o = record {
   jmp_kind = j;
 }
 
-abbrev target_of : JumpKind → ℤ → OperandData
+abbrev target_of : Option JumpKind → ℤ → OperandData
 target_of j z = of_kind j (immediate_operand one z)
 
 -- [BX] of this size
-abbrev bx : Span → OptionDataSize → OperandData
-bx s z = indirect_operand s 7 (pos 0) z OG.None
+abbrev bx : Span → Option DataSize → OperandData
+bx s z = indirect_operand s 7 (pos 0) z None
 
-abbrev through : JumpKind → OptionDataSize → OperandData
+abbrev through : Option JumpKind → Option DataSize → OperandData
 through j z = of_kind j (bx one z)
 
 -- RET with one operand
@@ -97,7 +95,7 @@ pub record Rows (off : ℕ) : Type 0 where
   pub add_ax_5 : answer (with_two Op.ADD ax (immediate (pos 5))) off ≡ bytes (0x83 ∷ 0xC0 ∷ 0x05 ∷ [])  -- P
   pub add_ax_minus_1 : answer (with_two Op.ADD ax (immediate (negsuc 0))) off ≡ bytes (0x83 ∷ 0xC0 ∷ 0xFF ∷ [])  -- P, by No. 2
   pub add_bx_200 : answer (with_two Op.ADD (register_operand one 3 S.Word) (immediate (pos 200))) off ≡ bytes (0x81 ∷ 0xC3 ∷ 0xC8 ∷ 0x00 ∷ [])
-  pub add_word_bx_5 : answer (with_two Op.ADD (indirect_operand one 7 (pos 0) (OD.Some D.Word) OG.None) (immediate (pos 5))) off ≡ bytes (0x83 ∷ 0x07 ∷ 0x05 ∷ [])  -- P
+  pub add_word_bx_5 : answer (with_two Op.ADD (indirect_operand one 7 (pos 0) (Some D.Word) None) (immediate (pos 5))) off ≡ bytes (0x83 ∷ 0x07 ∷ 0x05 ∷ [])  -- P
   pub xchg_cl_al : answer (with_two Op.XCHG (register_operand one 1 S.Byte) (register_operand two 0 S.Byte)) off ≡ bytes (0x86 ∷ 0xC8 ∷ [])  -- P
   pub xchg_cx_cx : answer (with_two Op.XCHG (register_operand one 1 S.Word) (register_operand two 1 S.Word)) off ≡ bytes (0x87 ∷ 0xC9 ∷ [])  -- P
   pub je_0_129 : answer (to Op.JE (pos 129)) 0 ≡ bytes (0x74 ∷ 0x7F ∷ [])  -- P
@@ -107,19 +105,19 @@ pub record Rows (off : ℕ) : Type 0 where
   pub je_65534_65536 : answer (to Op.JE (pos 65536)) 65534 ≡ bytes (0x74 ∷ 0x00 ∷ [])  -- P
   pub je_65534_0 : answer (to Op.JE (pos 0)) 65534 ≡ refused (E.RelativeJumpOutOfRange one S.Byte true (negsuc 65535))  -- P
   pub jmp_65533_0 : answer (to Op.JMP (pos 0)) 65533 ≡ bytes (0xE9 ∷ 0x00 ∷ 0x00 ∷ [])  -- P
-  pub mov_al_bp : answer (with_two Op.MOV (register_operand one 0 S.Byte) (indirect_operand two 6 (pos 0) OD.None OG.None)) off ≡ bytes (0x8A ∷ 0x46 ∷ 0x00 ∷ [])  -- P
-  pub mov_byte_bx_255 : answer (with_two Op.MOV (indirect_operand one 7 (pos 0) (OD.Some D.Byte) OG.None) (immediate (pos 255))) off ≡ bytes (0xC6 ∷ 0x07 ∷ 0xFF ∷ [])
-  pub mov_byte_bx_300 : answer (with_two Op.MOV (indirect_operand one 7 (pos 0) (OD.Some D.Byte) OG.None) (immediate (pos 300))) off ≡ refused (E.ImmediateOutOfRange two (pos 300) (negsuc 127) (pos 255))
+  pub mov_al_bp : answer (with_two Op.MOV (register_operand one 0 S.Byte) (indirect_operand two 6 (pos 0) None None)) off ≡ bytes (0x8A ∷ 0x46 ∷ 0x00 ∷ [])  -- P
+  pub mov_byte_bx_255 : answer (with_two Op.MOV (indirect_operand one 7 (pos 0) (Some D.Byte) None) (immediate (pos 255))) off ≡ bytes (0xC6 ∷ 0x07 ∷ 0xFF ∷ [])
+  pub mov_byte_bx_300 : answer (with_two Op.MOV (indirect_operand one 7 (pos 0) (Some D.Byte) None) (immediate (pos 300))) off ≡ refused (E.ImmediateOutOfRange two (pos 300) (negsuc 127) (pos 255))
   -- No. 2: 83 by the value as written, in a Word alone
   pub add_ax_65535 : answer (with_two Op.ADD ax (immediate (pos 65535))) off ≡ bytes (0x05 ∷ 0xFF ∷ 0xFF ∷ [])
   pub add_ax_127 : answer (with_two Op.ADD ax (immediate (pos 127))) off ≡ bytes (0x83 ∷ 0xC0 ∷ 0x7F ∷ [])
   pub add_ax_128 : answer (with_two Op.ADD ax (immediate (pos 128))) off ≡ bytes (0x05 ∷ 0x80 ∷ 0x00 ∷ [])
   pub add_bx_minus_128 : answer (with_two Op.ADD (register_operand one 3 S.Word) (immediate (negsuc 127))) off ≡ bytes (0x83 ∷ 0xC3 ∷ 0x80 ∷ [])
   pub add_bx_minus_129 : answer (with_two Op.ADD (register_operand one 3 S.Word) (immediate (negsuc 128))) off ≡ bytes (0x81 ∷ 0xC3 ∷ 0x7F ∷ 0xFF ∷ [])
-  pub add_word_bx_minus_1 : answer (with_two Op.ADD (bx one (OD.Some D.Word)) (immediate (negsuc 0))) off ≡ bytes (0x83 ∷ 0x07 ∷ 0xFF ∷ [])
-  pub add_word_bx_minus_129 : answer (with_two Op.ADD (bx one (OD.Some D.Word)) (immediate (negsuc 128))) off ≡ bytes (0x81 ∷ 0x07 ∷ 0x7F ∷ 0xFF ∷ [])
+  pub add_word_bx_minus_1 : answer (with_two Op.ADD (bx one (Some D.Word)) (immediate (negsuc 0))) off ≡ bytes (0x83 ∷ 0x07 ∷ 0xFF ∷ [])
+  pub add_word_bx_minus_129 : answer (with_two Op.ADD (bx one (Some D.Word)) (immediate (negsuc 128))) off ≡ bytes (0x81 ∷ 0x07 ∷ 0x7F ∷ 0xFF ∷ [])
   pub add_al_minus_1 : answer (with_two Op.ADD (register_operand one 0 S.Byte) (immediate (negsuc 0))) off ≡ bytes (0x04 ∷ 0xFF ∷ [])
-  pub add_byte_bx_minus_1 : answer (with_two Op.ADD (bx one (OD.Some D.Byte)) (immediate (negsuc 0))) off ≡ bytes (0x80 ∷ 0x07 ∷ 0xFF ∷ [])
+  pub add_byte_bx_minus_1 : answer (with_two Op.ADD (bx one (Some D.Byte)) (immediate (negsuc 0))) off ≡ bytes (0x80 ∷ 0x07 ∷ 0xFF ∷ [])
   pub mov_ax_minus_1 : answer (with_two Op.MOV ax (immediate (negsuc 0))) off ≡ bytes (0xB8 ∷ 0xFF ∷ 0xFF ∷ [])
   -- No. 4: one range for data immediates; the others keep theirs
   pub mov_al_minus_1 : answer (with_two Op.MOV al (immediate (negsuc 0))) off ≡ bytes (0xB0 ∷ 0xFF ∷ [])
@@ -135,43 +133,43 @@ pub record Rows (off : ℕ) : Type 0 where
   pub int_minus_1 : answer (to Op.INT (negsuc 0)) off ≡ refused (E.ImmediateOutOfRange one (negsuc 0) (pos 0) (pos 255))
   pub in_minus_1 : answer (with_two Op.IN al (immediate (negsuc 0))) off ≡ refused (E.ImmediateOutOfRange two (negsuc 0) (pos 0) (pos 255))
   pub out_minus_1 : answer (with_two Op.OUT (immediate_operand one (negsuc 0)) (register_operand two 0 S.Byte)) off ≡ refused (E.ImmediateOutOfRange one (negsuc 0) (pos 0) (pos 255))
-  pub mov_al_at_minus_1 : answer (with_two Op.MOV al (direct_operand two (negsuc 0) OD.None OG.None)) off ≡ refused (E.ImmediateOutOfRange two (negsuc 0) (pos 0) (pos 65535))
+  pub mov_al_at_minus_1 : answer (with_two Op.MOV al (direct_operand two (negsuc 0) None None)) off ≡ refused (E.ImmediateOutOfRange two (negsuc 0) (pos 0) (pos 65535))
   pub call_minus_1 : answer (to Op.CALL (negsuc 0)) off ≡ refused (E.ImmediateOutOfRange one (negsuc 0) (pos 0) (pos 65535))
   pub jmp_far_minus_1 : answer (with_one Op.JMP (far_operand one (pos 0) (negsuc 0))) off ≡ refused (E.ImmediateOutOfRange one (negsuc 0) (pos 0) (pos 65535))
   pub shl_minus_1 : answer (with_two Op.SHL al (immediate (negsuc 0))) off ≡ refused (E.InvalidOperands whole)
   -- No. 1
   pub test_ax_bx : answer (with_two Op.TEST ax (register_operand two 3 S.Word)) off ≡ bytes (0x85 ∷ 0xD8 ∷ [])
   pub test_bx_ax : answer (with_two Op.TEST (register_operand one 3 S.Word) (register_operand two 0 S.Word)) off ≡ bytes (0x85 ∷ 0xC3 ∷ [])
-  pub test_bx_cl : answer (with_two Op.TEST (bx one OD.None) (register_operand two 1 S.Byte)) off ≡ bytes (0x84 ∷ 0x0F ∷ [])
-  pub test_cl_bx : answer (with_two Op.TEST (register_operand one 1 S.Byte) (bx two OD.None)) off ≡ bytes (0x84 ∷ 0x0F ∷ [])
+  pub test_bx_cl : answer (with_two Op.TEST (bx one None) (register_operand two 1 S.Byte)) off ≡ bytes (0x84 ∷ 0x0F ∷ [])
+  pub test_cl_bx : answer (with_two Op.TEST (register_operand one 1 S.Byte) (bx two None)) off ≡ bytes (0x84 ∷ 0x0F ∷ [])
   pub test_ax_5 : answer (with_two Op.TEST ax (immediate (pos 5))) off ≡ bytes (0xA9 ∷ 0x05 ∷ 0x00 ∷ [])
   pub test_bl_255 : answer (with_two Op.TEST (register_operand one 3 S.Byte) (immediate (pos 255))) off ≡ bytes (0xF6 ∷ 0xC3 ∷ 0xFF ∷ [])
   pub test_bl_300 : answer (with_two Op.TEST (register_operand one 3 S.Byte) (immediate (pos 300))) off ≡ refused (E.ImmediateOutOfRange two (pos 300) (negsuc 127) (pos 255))
-  pub test_word_bx : answer (with_two Op.TEST (bx one (OD.Some D.Word)) (immediate (pos 65535))) off ≡ bytes (0xF7 ∷ 0x07 ∷ 0xFF ∷ 0xFF ∷ [])
-  pub test_word_minus_1 : answer (with_two Op.TEST (bx one (OD.Some D.Word)) (immediate (negsuc 0))) off ≡ bytes (0xF7 ∷ 0x07 ∷ 0xFF ∷ 0xFF ∷ [])
+  pub test_word_bx : answer (with_two Op.TEST (bx one (Some D.Word)) (immediate (pos 65535))) off ≡ bytes (0xF7 ∷ 0x07 ∷ 0xFF ∷ 0xFF ∷ [])
+  pub test_word_minus_1 : answer (with_two Op.TEST (bx one (Some D.Word)) (immediate (negsuc 0))) off ≡ bytes (0xF7 ∷ 0x07 ∷ 0xFF ∷ 0xFF ∷ [])
   pub test_5_al : answer (with_two Op.TEST (immediate_operand one (pos 5)) (register_operand two 0 S.Byte)) off ≡ refused (E.InvalidOperands whole)
-  pub push_word_bx : answer (with_one Op.PUSH (bx one (OD.Some D.Word))) off ≡ bytes (0xFF ∷ 0x37 ∷ [])
-  pub push_byte_bx : answer (with_one Op.PUSH (bx one (OD.Some D.Byte))) off ≡ refused (E.InvalidOperands one)
-  pub push_unstated_bx : answer (with_one Op.PUSH (bx one OD.None)) off ≡ refused (E.InvalidOperands one)
-  pub pop_word_bx : answer (with_one Op.POP (bx one (OD.Some D.Word))) off ≡ bytes (0x8F ∷ 0x07 ∷ [])
-  pub pop_byte_bx : answer (with_one Op.POP (bx one (OD.Some D.Byte))) off ≡ refused (E.InvalidOperandSize one)
+  pub push_word_bx : answer (with_one Op.PUSH (bx one (Some D.Word))) off ≡ bytes (0xFF ∷ 0x37 ∷ [])
+  pub push_byte_bx : answer (with_one Op.PUSH (bx one (Some D.Byte))) off ≡ refused (E.InvalidOperands one)
+  pub push_unstated_bx : answer (with_one Op.PUSH (bx one None)) off ≡ refused (E.InvalidOperands one)
+  pub pop_word_bx : answer (with_one Op.POP (bx one (Some D.Word))) off ≡ bytes (0x8F ∷ 0x07 ∷ [])
+  pub pop_byte_bx : answer (with_one Op.POP (bx one (Some D.Byte))) off ≡ refused (E.InvalidOperandSize one)
   pub ret : answer (no_operands whole Op.RET) off ≡ bytes (0xC3 ∷ [])
   pub ret_0 : answer (return (immediate_operand one (pos 0))) off ≡ bytes (0xC2 ∷ 0x00 ∷ 0x00 ∷ [])
-  pub ret_65535 : answer (return (target_of J.Far (pos 65535))) off ≡ bytes (0xC2 ∷ 0xFF ∷ 0xFF ∷ [])
+  pub ret_65535 : answer (return (target_of (Some J.Far) (pos 65535))) off ≡ bytes (0xC2 ∷ 0xFF ∷ 0xFF ∷ [])
   pub ret_two : answer (with_two Op.RET (immediate_operand one (pos 4)) ax) off ≡ bytes (0xC2 ∷ 0x04 ∷ 0x00 ∷ [])
   pub ret_minus_1 : answer (return (immediate_operand one (negsuc 0))) off ≡ refused (E.ImmediateOutOfRange one (negsuc 0) (pos 0) (pos 65535))
   pub ret_ax : answer (return ax) off ≡ refused (E.InvalidOperands whole)
-  pub call_far_bx : answer (with_one Op.CALL (through J.Far OD.None)) off ≡ bytes (0xFF ∷ 0x1F ∷ [])
-  pub call_far_word_bx : answer (with_one Op.CALL (through J.Far (OD.Some D.Word))) off ≡ bytes (0xFF ∷ 0x1F ∷ [])
-  pub call_far_byte_bx : answer (with_one Op.CALL (through J.Far (OD.Some D.Byte))) off ≡ refused (E.InvalidOperands whole)
-  pub call_near_bx : answer (with_one Op.CALL (through J.Near OD.None)) off ≡ bytes (0xFF ∷ 0x17 ∷ [])
-  pub jmp_far_bx : answer (with_one Op.JMP (through J.Far OD.None)) off ≡ refused (E.InvalidOperands one)
-  pub jmp_short : answer (with_one Op.JMP (target_of J.Short (pos 129))) 0 ≡ bytes (0xEB ∷ 0x7F ∷ [])
-  pub jmp_short_130 : answer (with_one Op.JMP (target_of J.Short (pos 130))) 0 ≡ refused (E.RelativeJumpOutOfRange one S.Byte true (pos 128))
-  pub jmp_short_back : answer (with_one Op.JMP (target_of J.Short (pos 130))) 256 ≡ bytes (0xEB ∷ 0x80 ∷ [])
-  pub jmp_short_wraps_not : answer (with_one Op.JMP (target_of J.Short (pos 0))) 65534 ≡ refused (E.RelativeJumpOutOfRange one S.Byte true (negsuc 65535))
-  pub jmp_short_minus_1 : answer (with_one Op.JMP (target_of J.Short (negsuc 0))) off ≡ refused (E.ImmediateOutOfRange one (negsuc 0) (pos 0) (pos 65535))
-  pub jmp_short_65536 : answer (with_one Op.JMP (target_of J.Short (pos 65536))) off ≡ refused (E.ImmediateOutOfRange one (pos 65536) (pos 0) (pos 65535))
+  pub call_far_bx : answer (with_one Op.CALL (through (Some J.Far) None)) off ≡ bytes (0xFF ∷ 0x1F ∷ [])
+  pub call_far_word_bx : answer (with_one Op.CALL (through (Some J.Far) (Some D.Word))) off ≡ bytes (0xFF ∷ 0x1F ∷ [])
+  pub call_far_byte_bx : answer (with_one Op.CALL (through (Some J.Far) (Some D.Byte))) off ≡ refused (E.InvalidOperands whole)
+  pub call_near_bx : answer (with_one Op.CALL (through (Some J.Near) None)) off ≡ bytes (0xFF ∷ 0x17 ∷ [])
+  pub jmp_far_bx : answer (with_one Op.JMP (through (Some J.Far) None)) off ≡ refused (E.InvalidOperands one)
+  pub jmp_short : answer (with_one Op.JMP (target_of (Some J.Short) (pos 129))) 0 ≡ bytes (0xEB ∷ 0x7F ∷ [])
+  pub jmp_short_130 : answer (with_one Op.JMP (target_of (Some J.Short) (pos 130))) 0 ≡ refused (E.RelativeJumpOutOfRange one S.Byte true (pos 128))
+  pub jmp_short_back : answer (with_one Op.JMP (target_of (Some J.Short) (pos 130))) 256 ≡ bytes (0xEB ∷ 0x80 ∷ [])
+  pub jmp_short_wraps_not : answer (with_one Op.JMP (target_of (Some J.Short) (pos 0))) 65534 ≡ refused (E.RelativeJumpOutOfRange one S.Byte true (negsuc 65535))
+  pub jmp_short_minus_1 : answer (with_one Op.JMP (target_of (Some J.Short) (negsuc 0))) off ≡ refused (E.ImmediateOutOfRange one (negsuc 0) (pos 0) (pos 65535))
+  pub jmp_short_65536 : answer (with_one Op.JMP (target_of (Some J.Short) (pos 65536))) off ≡ refused (E.ImmediateOutOfRange one (pos 65536) (pos 0) (pos 65535))
   pub jmp_no_kind : answer (to Op.JMP (pos 5)) 0 ≡ bytes (0xE9 ∷ 0x02 ∷ 0x00 ∷ [])
   pub wait : answer (no_operands whole Op.WAIT) off ≡ bytes (0x9B ∷ [])
   pub int1 : answer (no_operands whole Op.INT1) off ≡ refused (E.NotSupported whole)
@@ -330,7 +328,7 @@ word s z = record {
   mode = 0;
   rm = 0;
   imm = z;
-  jmp_kind = J.None;
+  jmp_kind = None;
 }
 
 record Order : Type 0 where
@@ -342,8 +340,8 @@ record Order : Type 0 where
   first_before_second : answer (with_two Op.ADD (bad one) (bad two)) 0 ≡ refused (E.NotWellFormed one)
   -- 8 before the others
   eight_before_7 : answer (with_one Op.INT1 (bad one)) 0 ≡ refused (E.NotWellFormed one)
-  eight_before_2 : answer (with_two Op.ADD (bx one OD.None) (register_operand two 8 S.Unspecified)) 0 ≡ refused (E.NotWellFormed two)
-  eight_before_4 : answer (with_one Op.INC (indirect_operand one 8 (pos 0) OD.None OG.None)) 0 ≡ refused (E.NotWellFormed one)
+  eight_before_2 : answer (with_two Op.ADD (bx one None) (register_operand two 8 S.Unspecified)) 0 ≡ refused (E.NotWellFormed two)
+  eight_before_4 : answer (with_one Op.INC (indirect_operand one 8 (pos 0) None None)) 0 ≡ refused (E.NotWellFormed one)
   eight_before_3 : answer (with_two Op.ADD al (bad two)) 0 ≡ refused (E.NotWellFormed two)
   eight_before_1 : answer (with_one Op.POP (segment_operand one 5)) 0 ≡ refused (E.NotWellFormed one)
   eight_before_5 : answer (instruction whole Op.MOV 3 al (immediate (pos 300))) 0 ≡ refused (E.NotWellFormed whole)
@@ -354,7 +352,7 @@ record Order : Type 0 where
   unused_before_23 : answer (with_repeat 0xF0 (instruction whole Op.MOVSB 0 ax (bad two))) 0 ≡ refused (E.NotWellFormed two)
   -- 23 before the others
   twenty_three_before_7 : answer (with_repeat 0xF3 (no_operands whole Op.ESC)) 0 ≡ refused (E.InvalidRepeat whole)
-  twenty_three_before_2 : answer (with_repeat 0xF3 (with_two Op.ADD (bx one OD.None) (bx two OD.None))) 0 ≡ refused (E.InvalidRepeat whole)
+  twenty_three_before_2 : answer (with_repeat 0xF3 (with_two Op.ADD (bx one None) (bx two None))) 0 ≡ refused (E.InvalidRepeat whole)
   twenty_three_before_1 : answer (with_repeat 0xF3 (with_one Op.POP (segment_operand one 1))) 0 ≡ refused (E.InvalidRepeat whole)
   twenty_three_before_5 : answer (with_repeat 0xF3 (with_two Op.MOV al (immediate (pos 300)))) 0 ≡ refused (E.InvalidRepeat whole)
   twenty_three_before_6 : answer (with_repeat 0xF3 (to Op.JE (pos 130))) 0 ≡ refused (E.InvalidRepeat whole)
@@ -362,8 +360,8 @@ record Order : Type 0 where
   seven_before_3 : answer (with_two Op.ESC al ax) 0 ≡ refused (E.NotSupported whole)
   seven_before_1 : answer (with_one Op.INT1 (segment_operand one 3)) 0 ≡ refused (E.NotSupported whole)
   -- the stated size before the form and the range
-  two_before_1 : answer (with_two Op.ADD (bx one OD.None) (bx two OD.None)) 0 ≡ refused (E.OperandSizeNotSpecified whole)
-  two_before_5 : answer (with_two Op.ADD (bx one OD.None) (immediate (pos 70000))) 0 ≡ refused (E.OperandSizeNotSpecified whole)
+  two_before_1 : answer (with_two Op.ADD (bx one None) (bx two None)) 0 ≡ refused (E.OperandSizeNotSpecified whole)
+  two_before_5 : answer (with_two Op.ADD (bx one None) (immediate (pos 70000))) 0 ≡ refused (E.OperandSizeNotSpecified whole)
   four_before_1 : answer (with_one Op.POP (register_operand one 0 S.Unspecified)) 0 ≡ refused (E.InvalidOperandSize one)
   -- equal sizes before the form and the range
   three_before_1 : answer (with_two Op.ADD al (segment_operand two 3)) 0 ≡ refused (E.OperandSizesDoNotMatch whole)
@@ -371,9 +369,9 @@ record Order : Type 0 where
   -- the form before the range and the distance
   one_before_5 : answer (with_two Op.IN (register_operand one 3 S.Word) (immediate (pos 256))) 0 ≡ refused (E.InvalidOperands whole)
   four_before_5 : answer (with_one Op.POP (word one (pos 70000))) 0 ≡ refused (E.InvalidOperandSize one)
-  one_before_6 : answer (with_one Op.JE (target_of J.Far (pos 300))) 0 ≡ refused (E.InvalidOperands one)
+  one_before_6 : answer (with_one Op.JE (target_of (Some J.Far) (pos 300))) 0 ≡ refused (E.InvalidOperands one)
   -- the range before the distance
-  five_before_6 : answer (with_one Op.JMP (target_of J.Short (pos 65536))) 0 ≡ refused (E.ImmediateOutOfRange one (pos 65536) (pos 0) (pos 65535))
+  five_before_6 : answer (with_one Op.JMP (target_of (Some J.Short) (pos 65536))) 0 ≡ refused (E.ImmediateOutOfRange one (pos 65536) (pos 0) (pos 65535))
 
 order : Order
 unfolding well_formed answer questions prefix is_repeat is_string grouped_of forms_of forms number_of layout
@@ -416,13 +414,13 @@ abbrev shown : Span
 shown = record { start = 3; end = 9 }
 
 record Slices (e : EncodeError) : Type 0 where
-  short : outcome (bytes (1 ∷ 2 ∷ [])) shown (7 ∷ []) ≡ N.Refused (E.SliceTooShort shown)
+  short : outcome (bytes (1 ∷ 2 ∷ [])) shown (7 ∷ []) ≡ Err (E.SliceTooShort shown)
   short_stays : slice_after (bytes (1 ∷ 2 ∷ [])) (7 ∷ []) ≡ 7 ∷ []
-  exact : outcome (bytes (1 ∷ 2 ∷ [])) shown (7 ∷ 8 ∷ []) ≡ N.Length 2
+  exact : outcome (bytes (1 ∷ 2 ∷ [])) shown (7 ∷ 8 ∷ []) ≡ Ok 2
   exact_after : slice_after (bytes (1 ∷ 2 ∷ [])) (7 ∷ 8 ∷ []) ≡ 1 ∷ 2 ∷ []
   longer_after : slice_after (bytes (1 ∷ 2 ∷ [])) (7 ∷ 8 ∷ 9 ∷ []) ≡ 1 ∷ 2 ∷ 9 ∷ []
   -- another refusal before 9
-  refused_first : outcome (refused e) shown [] ≡ N.Refused e
+  refused_first : outcome (refused e) shown [] ≡ Err e
   refused_stays : slice_after (refused e) (7 ∷ []) ≡ 7 ∷ []
 
 slices : (e : EncodeError) → Slices e

@@ -1,5 +1,6 @@
 -- What the slots of a form hold of a record's operands is what the record means, form by form.
 -- Assumes nothing.
+use Rattle.std.specs.Prelude.{None, Option, Some}
 use mathlib.Core.Path.{◌≡◌, refl, sym, ◌∙◌, subst}
 use Prim.Native.Nat.{ℕ, ◌+◌, ◌*◌, ◌%◌}
 use native.Mathlib.Omega.{arith}
@@ -23,7 +24,7 @@ use Rattle.mrc_compiler.specs.Operations.{same_operation}
 use Rattle.x86.specs.declared.Operand.{Operand}
 use Rattle.x86.specs.declared.Operand.TheVariants as O
 use Rattle.x86.specs.Instructions.{instruction, canonical}
-use Rattle.x86.specs.Forms.{byte, word, Slot, rm, rm_near, reg, acc, low3, cl, dx, one, ib, iw, ib_sx, cb, cw, ptr, mem_far, Form}
+use Rattle.x86.specs.Forms.{byte, word, Slot, rm, rm_near, reg, acc, low3, cl, dx, one, ib, iw, ib_sx, ptr, mem_far, Form}
 use Rattle.x86.specs.Forms as F
 use Rattle.x86.specs.Reading.{width_of}
 use Rattle.x86.proofs.Orders.{xchg_only, test_either}
@@ -293,17 +294,17 @@ shift_leaves n op =
     & end
 
 -- CALL and JMP: near, far, through a register or memory
-near_kind : {A : Type 0} (j : JumpKind) (near short : Bool) (n f : A) → by_jump j true false near short ≡ true → n ≡ by_jump j n f n n
-near_kind J.None near short n f e = refl
-near_kind J.Far near short n f e = false-true e
-near_kind J.Near near short n f e = refl
-near_kind J.Short near short n f e = refl
+near_kind : {A : Type 0} (j : Option JumpKind) (near short : Bool) (n f : A) → by_jump j true false near short ≡ true → n ≡ by_jump j n f n n
+near_kind None near short n f e = refl
+near_kind (Some J.Far) near short n f e = false-true e
+near_kind (Some J.Near) near short n f e = refl
+near_kind (Some J.Short) near short n f e = refl
 
-far_kind : {A : Type 0} (j : JumpKind) (n f : A) → by_jump j false true false false ≡ true → f ≡ by_jump j n f n n
-far_kind J.None n f e = false-true e
-far_kind J.Far n f e = refl
-far_kind J.Near n f e = false-true e
-far_kind J.Short n f e = false-true e
+far_kind : {A : Type 0} (j : Option JumpKind) (n f : A) → by_jump j false true false false ≡ true → f ≡ by_jump j n f n n
+far_kind None n f e = false-true e
+far_kind (Some J.Far) n f e = refl
+far_kind (Some J.Near) n f e = false-true e
+far_kind (Some J.Short) n f e = false-true e
 
 -- what cw takes, and cb
 near_goes : (op : Operation) (near short : Bool) (o : OperandData) → if_imm o (by_jump o.jmp_kind true false near short) ≡ true

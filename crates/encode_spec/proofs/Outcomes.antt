@@ -1,5 +1,6 @@
 -- How the answers are: at most seven bytes, or a refusal that is not 9. So `encode` into seven bytes never answers 9.
 -- Assumes nothing.
+use Rattle.std.specs.Prelude.{Err, Ok, Result, ℕ}
 use mathlib.Core.Path.{◌≡◌, refl, sym, ◌∙◌, ap}
 use mathlib.Core.Bool.{Bool, true, false}
 use mathlib.Core.List.{List, [], ◌∷◌}
@@ -10,8 +11,6 @@ use lib.Dec.{eqb}
 use borrow.Author.Tests.{le-leb}
 use Rattle.mrc_compiler.specs.declared.ast.Span.{Span}
 use Rattle.mrc_compiler.specs.declared.encoder.EncodeError.{EncodeError}
-use Rattle.mrc_compiler.specs.declared.encoder.Encoded.{Encoded}
-use Rattle.mrc_compiler.specs.declared.encoder.Encoded.TheVariants as N
 use Rattle.mrc_compiler.specs.declared.encoder.InstructionData.{InstructionData}
 use Rattle.mrc_compiler.specs.Choose.{pick, both}
 use Rattle.mrc_compiler.specs.Refusals.{report_of}
@@ -71,9 +70,9 @@ unfolding answer
 answer_not_nine insn off = first_not (questions insn off) _ (questions_give insn off)
 
 -- ---- and none encode, into seven bytes
-abbrev pub NotNine : Encoded → Type 0
-NotNine (N.Length n) = Unit {0}
-NotNine (N.Refused e) = (report_of e).number ≡ 9 → ⊥
+abbrev pub NotNine : Result ℕ EncodeError → Type 0
+NotNine (Ok n) = Unit {0}
+NotNine (Err e) = (report_of e).number ≡ 9 → ⊥
 
 pub never_nine : (insn : InstructionData) (off : ℕ) → off < 65536 → (span : Span) (s : List ℕ) → 7 ≤ length s → NotNine (outcome (answer insn off) span s)
 never_nine insn off h span s room = go (answer insn off) (answer_short insn off h) (answer_not_nine insn off)

@@ -1,5 +1,6 @@
 -- The bytes of a form with its operands read back as that form with what its slots hold.
 -- Assumes nothing.
+use Rattle.std.specs.Prelude.{Ok}
 use mathlib.Core.Path.{◌≡◌, refl, sym, ◌∙◌, ap, subst}
 use Prim.Native.Nat.{ℕ, zero, suc, ◌+◌, ◌/◌, ◌≤◌, ◌<◌}
 use native.Mathlib.Omega.{arith}
@@ -14,7 +15,6 @@ use Rattle.mrc_compiler.specs.Choose.{pick, both, either, isnt}
 use Rattle.mrc_compiler.specs.Operations.{number_of, is_string}
 use Rattle.x86.specs.declared.Instruction.{Instruction}
 use Rattle.x86.specs.declared.Operand.{Operand}
-use Rattle.x86.specs.declared.Read.TheVariants.{Whole}
 use Rattle.x86.specs.Instructions.{canonical, repeated}
 use Rattle.x86.specs.Forms.{Extension, Form, forms}
 use Rattle.x86.specs.Forms as F
@@ -33,17 +33,17 @@ use Rattle.encode_spec.proofs.Arrangements.{Arranged, first_byte, second_byte, m
 
 -- bs reads, to the last byte and without a repeat, as the instruction m
 pub record ReadsPlain (off : ℕ) (m : Instruction) (bs : List ℕ) : Type 0 where
-  pub reads_it : read_plain off bs ≡ Whole m (length bs)
+  pub reads_it : read_plain off bs ≡ Ok (m, length bs)
   pub are_bytes : Bytes bs
 
 -- bs reads, to the last byte, as the instruction m, and is a string that the listing speaks of
 pub record Reads (off : ℕ) (m : Instruction) (bs : List ℕ) : Type 0 where
-  pub reads_it : reads off bs ≡ Whole m (length bs)
+  pub reads_it : reads off bs ≡ Ok (m, length bs)
   pub some : 1 ≤ length bs
   pub short : length bs ≤ 7
   pub are_bytes : Bytes bs
 
-read_whole : (off : ℕ) (m : Instruction) (bs : List ℕ) → reads off bs ≡ Whole m (length bs) → Bytes bs → Reads off m bs
+read_whole : (off : ℕ) (m : Instruction) (bs : List ℕ) → reads off bs ≡ Ok (m, length bs) → Bytes bs → Reads off m bs
 read_whole off m bs e h = let n = read_size off bs m (length bs) e in record { reads_it = e; some = n.0; short = n.1; are_bytes = h }
 
 -- without a repeat
@@ -188,7 +188,7 @@ second_alike i (suc j) (n ∷ s) t e o k h = absurd (rw (← e, eqb-suc-zero (le
 whole : (off p c x : ℕ) (f : Form) (t u : List ℕ) (A B : Operand) → either (eqb p 0) (names_memory f x) ≡ true → length t ≡ tail_length f x
     → drop (memory_length f x) t ≡ u
     → at f.first p c x (off + (head_length p f + tail_length f x)) t u ≡ A → at f.second p c x (off + (head_length p f + tail_length f x)) t u ≡ B
-    → read_form off p c x t f ≡ Whole (canonical f.operation (width_of f) A B) (head_length p f + tail_length f x)
+    → read_form off p c x t f ≡ Ok (canonical f.operation (width_of f) A B, head_length p f + tail_length f x)
 unfolding read_form
 whole off p c x f t u A B n l d a b = rw (n, le-leb (tail_length f x) (length t) (omega (arith, l)), d, a, b)
 
@@ -302,13 +302,13 @@ module _ (f : Form) (m : Memᴰ f forms) (r : ArrangedForm f) (off : ℕ) (h : o
     memory = may_name (eqb pl.p 0) (about f.first).place (about f.second).place x before_memory;
   }
 
-  read_it : read_plain off bs ≡ Whole held (length bs)
+  read_it : read_plain off bs ≡ Ok (held, length bs)
   read_it =
       front off pl.p c x t f begins pl.names.prefixed (no_second f.extension _)
       ∙ whole off pl.p c x f t (ia ++ ib) (holds f.first a) (holds f.second b) before_memory rest_length immediates
       (ap (λ (n : ℕ). at f.first pl.p c x n t (ia ++ ib)) past_is ∙ first_found.reads)
       (ap (λ (n : ℕ). at f.second pl.p c x n t (ia ++ ib)) past_is ∙ second_found.reads)
-      ∙ ap (λ (n : ℕ). Whole held n) (sym all_length)
+      ∙ ap (λ (n : ℕ). Ok (held, n)) (sym all_length)
 
   bytes_in_order : Bytes bs
   bytes_in_order =

@@ -1,11 +1,9 @@
 -- What encode answers to a record at an offset, and what it leaves in the lent slice.
 -- Definitions only.
-use Rattle.std.specs.Prelude.{ℕ, List, [], ◌∷◌, ◌++◌, leb, length, drop}
+use Rattle.std.specs.Prelude.{ℕ, List, [], ◌∷◌, ◌++◌, leb, length, drop, Err, Ok, Result}
 use Rattle.mrc_compiler.specs.declared.ast.Span.{Span}
 use Rattle.mrc_compiler.specs.declared.encoder.EncodeError.{EncodeError}
 use Rattle.mrc_compiler.specs.declared.encoder.EncodeError.TheVariants as E
-use Rattle.mrc_compiler.specs.declared.encoder.Encoded.{Encoded}
-use Rattle.mrc_compiler.specs.declared.encoder.Encoded.TheVariants as N
 use Rattle.mrc_compiler.specs.declared.encoder.InstructionData.{InstructionData}
 use Rattle.mrc_compiler.specs.declared.encoder.OperandData.{OperandData}
 use Rattle.mrc_compiler.specs.Choose.{pick}
@@ -47,9 +45,9 @@ unfoldable pub answer : InstructionData → ℕ → Answer
 answer insn off = answered (first_no (questions insn off)) (record_bytes insn off)
 
 -- question 8: what is returned, and the slice afterwards
-abbrev pub outcome : Answer → Span → List ℕ → Encoded
-outcome (refused e) span s = N.Refused e
-outcome (bytes bs) span s = pick (leb (length bs) (length s)) (N.Length (length bs)) (N.Refused (E.SliceTooShort span))
+abbrev pub outcome : Answer → Span → List ℕ → Result ℕ EncodeError
+outcome (refused e) span s = Err e
+outcome (bytes bs) span s = pick (leb (length bs) (length s)) (Ok (length bs)) (Err (E.SliceTooShort span))
 
 abbrev pub slice_after : Answer → List ℕ → List ℕ
 slice_after (refused e) s = s

@@ -8,8 +8,9 @@ use mathlib.Core.List.{List, [], ◌∷◌, ◌++◌, append-nil, append_assoc}
 use lib.ListN.{length}
 use Rattle.mrc_compiler.specs.declared.encoder.InstructionData.{InstructionData}
 use Rattle.mrc_compiler.specs.declared.encoder.generate.Code.{Code}
-use Rattle.mrc_compiler.specs.declared.encoder.generate.Plan.{Plan}
-use Rattle.mrc_compiler.specs.declared.encoder.generate.Plan.TheVariants as P
+use Rattle.std.specs.Prelude.{Result, Err}
+use Rattle.mrc_compiler.specs.declared.encoder.generate.Codes.{Codes}
+use Rattle.mrc_compiler.specs.declared.encoder.generate.NoForm.{NoForm}
 use Rattle.mrc_compiler.specs.Choose.{pick}
 use Rattle.encode_spec.specs.Limits.{Asked, asked}
 use Rattle.encode_spec.specs.Questions.{Ask, with_span, error_of}
@@ -76,13 +77,13 @@ module _ (insn : InstructionData) (off : ℕ) where
   emits c (d ∷ e ∷ ds) h = absurd (omega arith)
 
   -- the questions of a group refuse as its plan does, and behind them the two answer the same
-  pub refuses : (qs : List Ask) (rs : List Asked) (bs : List ℕ) (p : Plan) → answered (first_no rs) bs ≡ plan_answer p insn off
+  pub refuses : (qs : List Ask) (rs : List Asked) (bs : List ℕ) (p : Result Codes NoForm) → answered (first_no rs) bs ≡ plan_answer p insn off
       → answered (first_no (with_span insn qs ++ rs)) bs ≡ plan_answer (refusing qs p) insn off
   refuses [] rs bs p h = h
   refuses (q ∷ qs) rs bs p h = go q.yes (refuses qs rs bs p h)
     where
       go : (t : Bool) → answered (first_no (with_span insn qs ++ rs)) bs ≡ plan_answer (refusing qs p) insn off
           → answered (pick t (first_no (with_span insn qs ++ rs)) (no (asked q.number q.yes (error_of q.why q.at insn)))) bs
-          ≡ plan_answer (pick t (refusing qs p) (P.Refused q.why q.at)) insn off
+          ≡ plan_answer (pick t (refusing qs p) (Err (record { why = q.why; at = q.at }))) insn off
       go true h = h
       go false h = refl

@@ -1,64 +1,48 @@
 -- The answer by question 1 and the plan, and what a run of at most seven bytes writes of it.
 -- Assumes nothing.
-use mathlib.Core.Path.{◌≡◌, refl, sym, ap, ◌∙◌}
+use Rattle.std.specs.Prelude.{Ok}
+use mathlib.Core.Path.{◌≡◌, refl, sym, ◌∙◌}
 use mathlib.Core.Bool.{Bool, true, false}
 use mathlib.Core.List.{List, [], ◌∷◌, ◌++◌, append_assoc, append-nil}
-use Prim.Native.Nat.{ℕ, zero, suc, ◌+◌, ◌<◌, ◌≤◌}
+use Prim.Native.Nat.{ℕ, ◌+◌, ◌<◌, ◌≤◌}
 use native.Mathlib.Numerals.{add-one}
 use native.Mathlib.Omega.{arith}
 use lib.Dec.{eqb, leb}
 use lib.ListN.{length, get_or, take, drop, length-set, length-append}
 use lib.Seq.{take-suc-set}
 use borrow.Author.Tests.{lt-ltb, eqb-false}
+use Rattle.std.specs.Prelude.{Result, Ok, Err}
 use Rattle.mrc_compiler.specs.declared.ast.Span.{Span}
 use Rattle.mrc_compiler.specs.declared.encoder.EncodeError.{EncodeError}
 use Rattle.mrc_compiler.specs.declared.encoder.EncodeError.TheVariants as E
-use Rattle.mrc_compiler.specs.declared.encoder.Encoded.TheVariants as N
 use Rattle.mrc_compiler.specs.declared.encoder.InstructionData.{InstructionData}
 use Rattle.mrc_compiler.specs.Choose.{pick}
-use Rattle.x86.specs.declared.Read.TheVariants.{Whole}
+use Rattle.x86.proofs.ByForm.{same_parts}
 use Rattle.x86.specs.Reading.{reads}
 use Rattle.x86.proofs.Repeats.{HowRead, with_repeat, without, how_read, plain_repeat}
 use Rattle.encode_spec.specs.Records.{no_operand, dst, src}
-use Rattle.encode_spec.specs.WellFormed.{well_formed, repeat_formed}
+use Rattle.encode_spec.specs.WellFormed.{well_formed}
 use Rattle.encode_spec.specs.Meaning.{meaning}
 use Rattle.encode_spec.specs.Answer.{Answer, bytes, refused, answer, outcome, slice_after}
 use Rattle.encode_spec.proofs.Accepted.{accepted_reads}
 use Rattle.encode_plans.specs.Plans.{plan_of}
 use Rattle.encode_run.specs.declared.ByteRun.{ByteRun}
-use Rattle.encode_fields.specs.declared.Refusal.TheVariants as R
-use Rattle.encode_codes.specs.declared.Emitted.{Emitted}
 use Rattle.encode_run.specs.Run.{empty_run, pushed, appended}
 use Rattle.encode_codes.specs.Emit.{emitted}
-use Rattle.encoder.specs.Coded.{plan_answer, behind_repeat, first_ill_formed, coded}
+use Rattle.encoder.specs.Coded.{plan_answer, behind_repeat, formed, coded}
 use Rattle.encoder.specs.Coded as Coded
 use Rattle.encoder.specs.Lengths.{length_of}
 use Rattle.encoder.proofs.Tied.{tied}
 
 -- ---- question 1, then the plan
 module _ (insn : InstructionData) (off : ℕ) where
-  pub count_refused : leb insn.num_opers 2 ≡ false → answer insn off ≡ refused (E.NotWellFormed insn.opers_span)
+  pub not_formed : {e : EncodeError} → formed insn ≡ Err e → answer insn off ≡ refused e
   unfolding coded
-  count_refused n = sym (tied insn off) ∙ rw n
+  not_formed h = sym (tied insn off) ∙ rw h
 
-  pub first_refused : leb insn.num_opers 2 ≡ true → well_formed (dst insn) ≡ false → answer insn off ≡ refused (E.NotWellFormed (dst insn).span)
+  planned : {u : Unit {0}} → formed insn ≡ Ok u → answer insn off ≡ behind_repeat insn.repeat (plan_answer (plan_of insn) insn off)
   unfolding coded
-  first_refused n a = sym (tied insn off) ∙ rw (n, a)
-
-  pub second_refused : leb insn.num_opers 2 ≡ true → well_formed (dst insn) ≡ true → well_formed (src insn) ≡ false
-      → answer insn off ≡ refused (E.NotWellFormed (src insn).span)
-  unfolding coded
-  second_refused n a b = sym (tied insn off) ∙ rw (n, a, b)
-
-  pub repeat_refused : leb insn.num_opers 2 ≡ true → well_formed (dst insn) ≡ true → well_formed (src insn) ≡ true
-      → repeat_formed insn.repeat insn.operation ≡ false → answer insn off ≡ refused (E.InvalidRepeat insn.opers_span)
-  unfolding coded
-  repeat_refused n a b r = sym (tied insn off) ∙ rw (n, a, b, r)
-
-  planned : leb insn.num_opers 2 ≡ true → well_formed (dst insn) ≡ true → well_formed (src insn) ≡ true
-      → repeat_formed insn.repeat insn.operation ≡ true → answer insn off ≡ behind_repeat insn.repeat (plan_answer (plan_of insn) insn off)
-  unfolding coded
-  planned n a b r = sym (tied insn off) ∙ rw (n, a, b, r)
+  planned h = sym (tied insn off) ∙ rw h
 
   -- a record with a repeat has two bytes
   two_bytes : off < 65536 → (bs : List ℕ) → eqb insn.repeat 0 ≡ false → answer insn off ≡ bytes (insn.repeat ∷ bs) → length bs ≡ 1
@@ -67,36 +51,39 @@ module _ (insn : InstructionData) (off : ℕ) where
       s : List ℕ
       s = insn.repeat ∷ bs
 
-      r : reads off s ≡ Whole (meaning insn) (length s)
+      r : reads off s ≡ Ok (meaning insn, length s)
       r = (accepted_reads insn off h s e).reads_it
 
       go : HowRead off s → length bs ≡ 1
-      go (with_repeat k) = let w = r in let q : length s ≡ 2 = cc in omega (arith, q)
+      go (with_repeat k) = omega (arith, (same_parts (sym r ∙ k.reads_it)).1)
       go (without n q) = absurd (eqb-false insn.repeat 0 z (plain_repeat off s (meaning insn) (length s) (sym q ∙ r)))
 
-  -- the plan's run behind the repeat is the answer's
-  module _ (h : off < 65536) where
-    behind : (a : Answer) → answer insn off ≡ behind_repeat insn.repeat a → Coded.with_repeat insn.repeat (emitted empty_run a) ≡ emitted empty_run (answer insn off)
-    behind a e = go (eqb insn.repeat 0) refl a e
+  -- the plan's run behind the repeat is the answer's; its refusal is the answer's too
+  pushed-one : (p : ℕ) (bs : List ℕ) → length bs ≡ 1 → pushed (pushed empty_run p) (get_or (appended empty_run bs).bytes 0 0) ≡ appended (pushed empty_run p) bs
+  pushed-one p [] l = absurd (omega arith)
+  pushed-one p (b ∷ []) l = refl
+  pushed-one p (b ∷ c ∷ bs) l = absurd (omega arith)
+
+  module _ {u : Unit {0}} (w : formed insn ≡ Ok u) where
+    pub run_planned : off < 65536 → {run : ByteRun} → emitted empty_run (plan_answer (plan_of insn) insn off) ≡ Ok run
+        → Ok (Coded.with_repeat insn.repeat run) ≡ emitted empty_run (answer insn off)
+    run_planned h {run} = go (eqb insn.repeat 0) refl (plan_answer (plan_of insn) insn off) (planned w)
       where
-        pushed-one : (p : ℕ) (bs : List ℕ) → length bs ≡ 1 → pushed (pushed empty_run p) (get_or (appended empty_run bs).bytes 0 0) ≡ appended (pushed empty_run p) bs
-        pushed-one p [] l = absurd (omega arith)
-        pushed-one p (b ∷ []) l = refl
-        pushed-one p (b ∷ c ∷ bs) l = absurd (omega arith)
-
         go : (z : Bool) → eqb insn.repeat 0 ≡ z → (a : Answer) → answer insn off ≡ behind_repeat insn.repeat a
-            → Coded.with_repeat insn.repeat (emitted empty_run a) ≡ emitted empty_run (answer insn off)
-        go true z (bytes bs) e = rw (e, z) refl
-        go false z (bytes bs) e =
+            → emitted empty_run a ≡ Ok run → Ok (Coded.with_repeat insn.repeat run) ≡ emitted empty_run (answer insn off)
+        go z q (refused x) e d = cc
+        go true z (bytes bs) e d = let r : appended empty_run bs ≡ run = cc in rw (e, z, ← r) refl
+        go false z (bytes bs) e d =
+            let r : appended empty_run bs ≡ run = cc in
             let q : answer insn off ≡ bytes (insn.repeat ∷ bs) = rw z at e in
-            rw (q, z, pushed-one insn.repeat bs (two_bytes h bs z q)) refl
-        go true z (refused x) e = rw (e, z) refl
-        go false z (refused x) e = rw (e, z) refl
+            rw (q, z, ← r, pushed-one insn.repeat bs (two_bytes h bs z q)) refl
 
-    pub run_planned : leb insn.num_opers 2 ≡ true → well_formed (dst insn) ≡ true → well_formed (src insn) ≡ true
-        → repeat_formed insn.repeat insn.operation ≡ true
-        → Coded.with_repeat insn.repeat (emitted empty_run (plan_answer (plan_of insn) insn off)) ≡ emitted empty_run (answer insn off)
-    run_planned n a b r = behind (plan_answer (plan_of insn) insn off) (planned n a b r)
+    pub run_refused : {e : EncodeError} → emitted empty_run (plan_answer (plan_of insn) insn off) ≡ Err e → answer insn off ≡ refused e
+    run_refused {e} d = planned w ∙ go (plan_answer (plan_of insn) insn off) d
+      where
+        go : (a : Answer) → emitted empty_run a ≡ Err e → behind_repeat insn.repeat a ≡ refused e
+        go (refused x) d = cc
+        go (bytes bs) d = cc
 
 -- ---- a run and the lent slice
 -- what a run holds
@@ -133,58 +120,64 @@ short_from : (insn : InstructionData) (off : ℕ) → off < 65536 → (a : Answe
 short_from insn off h (refused e) q = tt
 short_from insn off h (bytes bs) q = (accepted_reads insn off h bs q).short
 
-module _ (d : Emitted) where
-  pub len_of : (a : Answer) → Short a → d ≡ emitted empty_run a → d.run.len ≤ 7
-  len_of (refused e) sh hd = rw hd (omega arith)
-  len_of (bytes bs) sh hd = rw (hd, (all_holds bs sh).count) sh
+-- d is what was emitted for an answer
+module _ (d : Result ByteRun EncodeError) where
+  pub refused_by : (a : Answer) {e : EncodeError} → d ≡ emitted empty_run a → d ≡ Err e → a ≡ refused e
+  refused_by (refused x) hd nd = cc
+  refused_by (bytes bs) hd nd = cc
 
-  pub refused_by : (a : Answer) (e : EncodeError) → d ≡ emitted empty_run a → d.refusal ≡ R.Because e → a ≡ refused e
-  refused_by (refused x) e hd nd = cc
-  refused_by (bytes bs) e hd nd = let z : ◌≡◌ {A = ℕ} 0 1 = cc in absurd (omega arith)
+  module _ {run : ByteRun} (nd : d ≡ Ok run) where
+    run_by : (bs : List ℕ) → d ≡ emitted empty_run (bytes bs) → run ≡ appended empty_run bs
+    run_by bs hd = cc
 
-  bytes_by : (a : Answer) → d ≡ emitted empty_run a → d.refusal ≡ R.None → (bs : List ℕ) × (a ≡ bytes bs)
-  bytes_by (refused x) hd nd = let z : ◌≡◌ {A = ℕ} 0 1 = cc in absurd (omega arith)
-  bytes_by (bytes bs) hd nd = (bs, refl)
+    pub bytes_by : (a : Answer) → d ≡ emitted empty_run a → (bs : List ℕ) × (a ≡ bytes bs) × (run ≡ appended empty_run bs)
+    bytes_by (refused x) hd = cc
+    bytes_by (bytes bs) hd = (bs, refl, run_by bs hd)
 
-  length_by : (a : Answer) → Short a → d ≡ emitted empty_run a → d.refusal ≡ R.None → N.Length d.run.len ≡ length_of a
-  length_by (refused e) sh hd nd = let z : ◌≡◌ {A = ℕ} 0 1 = cc in absurd (omega arith)
-  length_by (bytes bs) sh hd nd = rw (hd, (all_holds bs sh).count)
+    pub len_of : (a : Answer) → Short a → d ≡ emitted empty_run a → run.len ≤ 7
+    len_of (refused e) sh hd = cc
+    len_of (bytes bs) sh hd = rw (run_by bs hd, (all_holds bs sh).count) sh
 
-  pub out_by : (span : Span) (s : List ℕ) (a : Answer) (x : List ℕ) (t : Bool) → Short a → d ≡ emitted empty_run a → d.refusal ≡ R.None
-      → t ≡ leb d.run.len (length s)
-      → x ≡ pick (leb d.run.len (length s)) (take d.run.len d.run.bytes ++ drop d.run.len s) s
-      → (pick t (N.Length d.run.len) (N.Refused (E.SliceTooShort span)) ≡ outcome a span s) × (x ≡ slice_after a s)
-  out_by span s (refused e) x t sh hd nd ht hx = let z : ◌≡◌ {A = ℕ} 0 1 = cc in absurd (omega arith)
-  out_by span s (bytes bs) x t sh hd nd ht hx =
-      let h = all_holds bs sh in
-      let hr : d.run ≡ appended empty_run bs = ap (λ (y : Emitted). y.run) hd in
-      let ht' = rw (hr, h.count) at ht in
-      let hx' = rw (hr, h.shown, h.count) at hx in
-      (rw (ht', hr, h.count), hx')
+    pub length_by : (a : Answer) → Short a → d ≡ emitted empty_run a → Ok run.len ≡ length_of a
+    length_by (refused e) sh hd = cc
+    length_by (bytes bs) sh hd = rw (run_by bs hd, (all_holds bs sh).count)
+
+    pub out_by : (span : Span) (s : List ℕ) (a : Answer) (x : List ℕ) (t : Bool) → Short a → d ≡ emitted empty_run a
+        → t ≡ leb run.len (length s)
+        → x ≡ pick (leb run.len (length s)) (take run.len run.bytes ++ drop run.len s) s
+        → (pick t (Ok run.len) (Err (E.SliceTooShort span)) ≡ outcome a span s) × (x ≡ slice_after a s)
+    out_by span s (refused e) x t sh hd ht hx = cc
+    out_by span s (bytes bs) x t sh hd ht hx =
+        let h = all_holds bs sh in
+        let hr = run_by bs hd in
+        let ht' = rw (hr, h.count) at ht in
+        let hx' = rw (hr, h.shown, h.count) at hx in
+        (rw (ht', hr, h.count), hx')
 
 -- d is what run_of gives for a record
-module _ (insn : InstructionData) (off : ℕ) (h : off < 65536) (d : Emitted) (hd : d ≡ emitted empty_run (answer insn off)) where
+module _ (insn : InstructionData) (off : ℕ) (h : off < 65536) (d : Result ByteRun EncodeError) (hd : d ≡ emitted empty_run (answer insn off)) where
   short_answer : Short (answer insn off)
   short_answer = short_from insn off h (answer insn off) refl
 
-  pub len_ok : d.run.len ≤ 7
-  len_ok = len_of d (answer insn off) short_answer hd
+  pub is_refused : {e : EncodeError} → d ≡ Err e → answer insn off ≡ refused e
+  is_refused nd = refused_by d (answer insn off) hd nd
 
-  pub is_refused : (e : EncodeError) → d.refusal ≡ R.Because e → answer insn off ≡ refused e
-  is_refused e nd = refused_by d (answer insn off) e hd nd
+  module _ {run : ByteRun} (nd : d ≡ Ok run) where
+    pub len_ok : run.len ≤ 7
+    len_ok = len_of d nd (answer insn off) short_answer hd
 
-  pub is_bytes : d.refusal ≡ R.None → (bs : List ℕ) × (answer insn off ≡ bytes bs)
-  is_bytes nd = bytes_by d (answer insn off) hd nd
+    pub is_bytes : (bs : List ℕ) × (answer insn off ≡ bytes bs) × (run ≡ appended empty_run bs)
+    is_bytes = bytes_by d nd (answer insn off) hd
 
-  pub length_ok : d.refusal ≡ R.None → N.Length d.run.len ≡ length_of (answer insn off)
-  length_ok nd = length_by d (answer insn off) short_answer hd nd
+    pub length_ok : Ok run.len ≡ length_of (answer insn off)
+    length_ok = length_by d nd (answer insn off) short_answer hd
 
-  pub out_ok : (s x : List ℕ) (t : Bool) → d.refusal ≡ R.None
-      → t ≡ leb d.run.len (length s)
-      → x ≡ pick (leb d.run.len (length s)) (take d.run.len d.run.bytes ++ drop d.run.len s) s
-      → (pick t (N.Length d.run.len) (N.Refused (E.SliceTooShort insn.opers_span)) ≡ outcome (answer insn off) insn.opers_span s)
-      × (x ≡ slice_after (answer insn off) s)
-  out_ok s x t nd ht hx = out_by d insn.opers_span s (answer insn off) x t short_answer hd nd ht hx
+    pub out_ok : (s x : List ℕ) (t : Bool)
+        → t ≡ leb run.len (length s)
+        → x ≡ pick (leb run.len (length s)) (take run.len run.bytes ++ drop run.len s) s
+        → (pick t (Ok run.len) (Err (E.SliceTooShort insn.opers_span)) ≡ outcome (answer insn off) insn.opers_span s)
+        × (x ≡ slice_after (answer insn off) s)
+    out_ok s x t ht hx = out_by d nd insn.opers_span s (answer insn off) x t short_answer hd ht hx
 
 -- ---- question 1 of the operands, one by one
 pub data Before (insn : InstructionData) : ℕ → Type 0 where
@@ -196,33 +189,3 @@ pub one_more : {insn : InstructionData} {i : ℕ} → Before insn i → i < 2 �
 one_more none l f = one f
 one_more (one a) l f = two a f
 one_more (two a b) l f = absurd (omega arith)
-
-pub first_ill : {insn : InstructionData} {i : ℕ} → Before insn i → i < 2 → well_formed (get_or insn.opers i no_operand) ≡ false → i ≡ first_ill_formed insn
-first_ill none l f = rw f
-first_ill (one a) l f = rw (a, f)
-first_ill (two a b) l f = absurd (omega arith)
-
-pub none_ill : {insn : InstructionData} {i : ℕ} → Before insn i → 2 ≤ i → 2 ≡ first_ill_formed insn
-none_ill none l = absurd (omega arith)
-none_ill (one a) l = absurd (omega arith)
-none_ill (two a b) l = rw (a, b)
-
--- what the place says of each
-pub first_yes : (a b : Bool) (r : ℕ) → r ≡ pick a (pick b 2 1) 0 → (r ≡ 0 → ⊥) → a ≡ true
-first_yes true b r e n = refl
-first_yes false b r e n = absurd (n e)
-
-pub first_no : (a b : Bool) (r : ℕ) → r ≡ pick a (pick b 2 1) 0 → r ≡ 0 → a ≡ false
-first_no true true r e n = absurd (omega arith)
-first_no true false r e n = absurd (omega arith)
-first_no false b r e n = refl
-
-pub second_yes : (a b : Bool) (r : ℕ) → r ≡ pick a (pick b 2 1) 0 → (r ≡ 0 → ⊥) → (r ≡ 1 → ⊥) → b ≡ true
-second_yes true true r e n m = refl
-second_yes true false r e n m = absurd (m e)
-second_yes false b r e n m = absurd (n e)
-
-pub second_no : (a b : Bool) (r : ℕ) → r ≡ pick a (pick b 2 1) 0 → r ≡ 1 → b ≡ false
-second_no true true r e n = absurd (omega arith)
-second_no true false r e n = refl
-second_no false b r e n = absurd (omega arith)

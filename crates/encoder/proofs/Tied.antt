@@ -12,10 +12,10 @@ use Rattle.mrc_compiler.specs.declared.encoder.EncodeError.TheVariants as E
 use Rattle.mrc_compiler.specs.declared.encoder.InstructionData.{InstructionData}
 use Rattle.mrc_compiler.specs.declared.encoder.OperandData.{OperandData}
 use Rattle.mrc_compiler.specs.declared.encoder.OperandSize.{OperandSize}
-use Rattle.mrc_compiler.specs.declared.encoder.generate.Plan.TheVariants as P
 use Rattle.mrc_compiler.specs.declared.encoder.generate.Why.TheVariants as W
 use Rattle.mrc_compiler.specs.declared.encoder.generate.At.TheVariants as At
 use Rattle.mrc_compiler.specs.declared.operations.Operation.{Operation}
+use Rattle.std.specs.Prelude.{Ok, Err}
 use Rattle.mrc_compiler.specs.Choose.{pick, both}
 use Rattle.mrc_compiler.specs.Operations.{same_operation}
 use Rattle.x86.specs.Forms.{Form, forms}
@@ -39,7 +39,7 @@ use Rattle.encode_spec.proofs.Meanings.{all_at}
 use Rattle.encode_spec.proofs.Operations.{by_operation}
 use Rattle.encode_plans.specs.Plans.{tail, head, fixed, form_plan, choice_plan, refusing, plan_of}
 use Rattle.encode_fields.specs.Fields.{joined, operand, other}
-use Rattle.encoder.specs.Coded.{plan_answer, behind_repeat, coded}
+use Rattle.encoder.specs.Coded.{plan_answer, behind_repeat, behind_formed, coded}
 use Rattle.encoder.proofs.Joins.{asked_joined, listed, listed-append, emits, refuses}
 use Rattle.encoder.proofs.Tails.{behind, codes, kind_fits, SlotTied, slot_tied}
 use Rattle.encoder.proofs.Heads.{laid_out, Headed, headed}
@@ -205,7 +205,7 @@ module _ (insn : InstructionData) (off : ℕ) (wa : well_formed (dst insn) ≡ t
       let q = form_found g none (dst insn) (src insn) in
       refuses insn off
       (ask 2 (is_supported g) W.NotSupported At.Operands ∷ size_stated g (dst insn) (src insn) ∷ sizes_agree g (dst insn) (src insn) ∷ target_asked g (dst insn) ∷ [])
-      (with_span insn (q ∷ [])) [] (P.Refused q.why q.at) refl
+      (with_span insn (q ∷ [])) [] (Err (record { why = q.why; at = q.at })) refl
 
   -- a form of the operation with the operands i and j
   of_operation : (i j : ℕ) → other insn i ≡ operand insn j → other insn j ≡ operand insn i
@@ -246,6 +246,16 @@ behind_answered : (p : ℕ) (f : First) (bs : List ℕ) → behind_repeat p (ans
 behind_answered p all_yes bs = refl
 behind_answered p (no q) bs = refl
 
+-- question 1 is four questions of the code, one in front of the other
+formed_asks : (n a b r : Bool) (en ea eb er : EncodeError) (x : Answer)
+    → behind_formed (pick n (pick a (pick b (pick r (Ok tt) (Err er)) (Err eb)) (Err ea)) (Err en)) x
+    ≡ pick n (pick a (pick b (pick r x (refused er)) (refused eb)) (refused ea)) (refused en)
+formed_asks false a b r en ea eb er x = refl
+formed_asks true false b r en ea eb er x = refl
+formed_asks true true false r en ea eb er x = refl
+formed_asks true true true false en ea eb er x = refl
+formed_asks true true true true en ea eb er x = refl
+
 -- the answer as the code finds it is the answer of the questions and forms
 pub tied : (insn : InstructionData) (off : ℕ) → coded insn off ≡ answer insn off
 unfolding coded answer questions plan_of
@@ -258,7 +268,8 @@ tied insn off =
     let repeat = asked 1 (repeat_formed insn.repeat insn.operation) of_repeat in
     let of_b = E.NotWellFormed b.span in
     let of_a = E.NotWellFormed a.span in
-    asked_where 1 (leb insn.num_opers 2) (E.NotWellFormed insn.opers_span) (asked 1 (well_formed a) of_a ∷ asked 1 (well_formed b) of_b ∷ repeat ∷ rs) bs _
+    formed_asks (leb insn.num_opers 2) (well_formed a) (well_formed b) (repeat_formed insn.repeat insn.operation) (E.NotWellFormed insn.opers_span) of_a of_b of_repeat _
+    ∙ asked_where 1 (leb insn.num_opers 2) (E.NotWellFormed insn.opers_span) (asked 1 (well_formed a) of_a ∷ asked 1 (well_formed b) of_b ∷ repeat ∷ rs) bs _
     (λ n. asked_where 1 (well_formed a) of_a (asked 1 (well_formed b) of_b ∷ repeat ∷ rs) bs _
     (λ wa. asked_where 1 (well_formed b) of_b (repeat ∷ rs) bs _
     (λ wb. asked_where 1 (repeat_formed insn.repeat insn.operation) of_repeat rs bs (behind_repeat insn.repeat (plan_answer (plan_of insn) insn off))

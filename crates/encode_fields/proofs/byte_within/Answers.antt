@@ -1,16 +1,19 @@
+use mir.Syntax.{w32}
+use mir.ValLaws.{to_z-of_z}
 use Rattle.encode_spec.specs.Layout.{byte_of}
 use Rattle.encode_fields.specs.Fields.{immediate_byte}
 use Rattle.encode_fields.proofs.Laws.{in_limits, out_of_limits}
+use Rattle.std.proofs.lemmas.Result.{err_from_is_err_and}
 use Rattle.encode_fields.proofs.byte_within.Goals as goal
 
-pub returns-then-value_is_within : goal.returns-then-value_is_within
+pub returns-in_err-require_within : goal.returns-in_err-require_within
 unfolding immediate_byte
-returns-then-value_is_within c =
-    let e = c in
-    in_limits c.args.low c.args.high c.args.value c.args.span byte_of c.ranges.low c.ranges.high c.ranges.value c.value_is_within.ensures c.if-value_is_within.true (rw c.low_byte.ensures at c.value_field.ensures)
+returns-in_err-require_within c =
+    let p = err_from_is_err_and c.from_residual.result c.from_residual.ensures.1 in
+    let q = out_of_limits _ _ _ _ c.ranges.low c.ranges.high c.ranges.value c.require_within.ensures (byte_of c.args.value) (c.in_err-require_within.was) in rw (p.1, p.2, q)
 
-pub returns-else-value_is_within : goal.returns-else-value_is_within
+pub returns : goal.returns
 unfolding immediate_byte
-returns-else-value_is_within c =
-    let e = c in
-    out_of_limits c.args.low c.args.high c.args.value c.args.span byte_of c.ranges.low c.ranges.high c.ranges.value c.value_is_within.ensures c.if-value_is_within.false c.refuse_value.ensures
+returns c =
+    let q = in_limits _ _ _ _ c.ranges.low c.ranges.high c.ranges.value c.require_within.ensures (byte_of c.args.value) (c.in_ok-require_within.was) in
+    rw (q, c.value_field.ensures, c.low_byte.ensures, to_z-of_z w32 c.args.value c.ranges.value)

@@ -3,4 +3,4 @@ use Rattle.encode_fields.proofs.mod_reg_rm.Goals as goal
 
 pub returns : goal.returns
 unfolding mod_reg_rm
-returns c = rw (c.prefix_field-prefix.ensures, c.mod_rm_byte-modrm.ensures, c.displacement_field-value.ensures)
+returns c = rw (c.prefix_field.ensures, c.mod_rm_byte.ensures, c.displacement_field.ensures)

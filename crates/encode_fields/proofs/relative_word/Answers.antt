@@ -1,21 +1,25 @@
 use native.Mathlib.Omega.{arith}
+use borrow.Author.Rules.{rules}
 use lib.IntN.{pos}
+use mir.Syntax.{w32}
+use mir.ValLaws.{to_z-of_z}
 use Rattle.base_values.specs.Distances.{distance_of}
 use Rattle.encode_spec.specs.Layout.{word_of}
 use Rattle.encode_fields.specs.Fields.{relative_word}
 use Rattle.encode_fields.proofs.Laws.{in_limits, out_of_limits}
+use Rattle.std.proofs.lemmas.Result.{err_from_is_err_and}
 use Rattle.encode_fields.proofs.relative_word.Goals as goal
 
-pub returns-then-value_is_within : goal.returns-then-value_is_within
+pub returns-in_err-require_within : goal.returns-in_err-require_within
 unfolding relative_word
-returns-then-value_is_within c =
-    let a = c.args in
-    in_limits (pos 0) (pos 65535) a.oper.imm a.oper.span (λ z. word_of (distance_of z a.offset 3)) (record { sfits = omega arith }) (record { sfits = omega arith }) (record { sfits = c.struct_told-1.given.1.1.1.1.0.1 })
-    c.value_is_within.ensures c.if-value_is_within.true (rw c.near_distance.ensures at c.value_field.ensures)
+returns-in_err-require_within c =
+    let o = c.args.oper in
+    let p = err_from_is_err_and c.from_residual.result c.from_residual.ensures.1 in
+    let q = out_of_limits (pos 0) (pos 65535) o.imm _ (record { sfits = omega arith }) (record { sfits = omega arith }) (search rules) c.require_within.ensures (word_of (distance_of o.imm c.args.offset 3)) (c.in_err-require_within.was) in rw (p.1, p.2, q)
 
-pub returns-else-value_is_within : goal.returns-else-value_is_within
+pub returns : goal.returns
 unfolding relative_word
-returns-else-value_is_within c =
-    let a = c.args in
-    out_of_limits (pos 0) (pos 65535) a.oper.imm a.oper.span (λ z. word_of (distance_of z a.offset 3)) (record { sfits = omega arith }) (record { sfits = omega arith }) (record { sfits = c.struct_told-1.given.1.1.1.1.0.1 })
-    c.value_is_within.ensures c.if-value_is_within.false c.refuse_value.ensures
+returns c =
+    let o = c.args.oper in
+    let q = in_limits (pos 0) (pos 65535) o.imm _ (record { sfits = omega arith }) (record { sfits = omega arith }) (search rules) c.require_within.ensures (word_of (distance_of o.imm c.args.offset 3)) (c.in_ok-require_within.was) in
+    rw (q, c.value_field.ensures, c.near_distance.ensures, to_z-of_z w32 o.imm (search rules))

@@ -1,12 +1,14 @@
+use Rattle.std.proofs.lemmas.Result.{err_from_is_err_and}
 use Rattle.encoder.proofs.Laws.{is_refused, length_ok}
 use Rattle.encoder.proofs.encoded_length.Goals as goal
 
-pub returns-in-Because : goal.returns-in-Because
-returns-in-Because c =
+pub returns-in_err-run : goal.returns-in_err-run
+returns-in_err-run c =
     let at = c in
-    rw (is_refused c.args.insn c.args.offset c.ranges.offset.fits _ c.run_of-done.ensures _ c.in-Because.is)
+    let p = err_from_is_err_and c.from_residual.result c.from_residual.ensures.1 in
+    rw (p.1, p.2, is_refused c.args.insn c.args.offset c.ranges.offset.fits _ c.run_of.ensures c.in_err-run.was)
 
-pub returns-in-None : goal.returns-in-None
-returns-in-None c =
+pub returns : goal.returns
+returns c =
     let at = c in
-    length_ok c.args.insn c.args.offset c.ranges.offset.fits _ c.run_of-done.ensures c.in-None.is
+    length_ok c.args.insn c.args.offset c.ranges.offset.fits _ c.run_of.ensures c.in_ok-run.was
