@@ -1,5 +1,6 @@
 -- First bytes with ModRM: what a plan says of them, computed over all first bytes and digits, and the words that it gives.
 -- Assumes nothing.
+use Rattle.std.specs.Prelude.{Some}
 use mathlib.Core.Path.{◌≡◌, refl, sym, ◌∙◌, ap}
 use Prim.Native.Nat.{ℕ, zero, suc, ◌+◌, ◌-◌, ◌*◌, ◌/◌, ◌%◌, ◌≤◌, ◌<◌}
 use native.Mathlib.Omega.{arith}
@@ -12,27 +13,22 @@ use borrow.Author.Tests.{eq-eqb, ne_eqb, lt-ltb, eqb-true, eqb-false, ltb-false}
 use Rattle.mrc_compiler.specs.declared.encoder.OperandSize.{OperandSize}
 use Rattle.mrc_compiler.specs.declared.encoder.OperandSize.TheVariants as S
 use Rattle.mrc_compiler.specs.declared.operations.Operation.{Operation}
-use Rattle.mrc_compiler.specs.declared.operations.OptionOperation.{OptionOperation}
-use Rattle.mrc_compiler.specs.declared.operations.OptionOperation.TheVariants as D
 use Rattle.mrc_compiler.specs.Choose.{pick, both, either}
 use Rattle.mrc_compiler.specs.Operations.{number_of, operations}
 use Rattle.x86.specs.declared.Operand.TheVariants as O
 use Rattle.x86.specs.Forms.{byte, word, Slot, rm, mem, reg}
-use Rattle.x86.specs.Instructions.{instruction}
 use Rattle.x86.specs.Listing.{Bytes}
 use Rattle.x86.specs.Operands.{size_number}
 use Rattle.x86.specs.Reading.{About, about, is, nowhere, any, at, mode, low, digit, displacement_length, displacement_at, rm_at, width_of, has_second, head_length, memory_length, tail_length, names_memory, allows_second, may_name_memory, prefix, is_repeat, repeats}
 use Rattle.x86.specs.Rows.{Shape, shape, modrm, modrm_digit, rows, shape_numbered, by_digit}
 use Rattle.read_table.specs.Rows.{operation_at, digits_of, found_at, exchanges, tests_register, extension_at, any_form, form_at}
 use Rattle.read_table.proofs.Agree.{table, table_at, shape_of}
-use Rattle.reader.specs.declared.Decoded.{Decoded}
-use Rattle.reader.specs.declared.Decoded.TheVariants.{Whole}
-use Rattle.reader.specs.Answer.{decoded}
+use Rattle.reader.specs.Answer.{reading, decoded}
 use Rattle.reader.specs.ByRow.{decoded_shape, decoded_opcode}
 use Rattle.reader.proofs.Laws.{rest, read_on, plain_decoded}
 use Rattle.fast_reader.specs.declared.Words.{Words}
 use Rattle.fast_reader.specs.Words.{extension_number, operand_head, operand_values, Placed, Reads}
-use Rattle.fast_reader.specs.Plans.{plans, word_in, first_in, second_in, tail_in, mode_in, order_in, group_in, digit_operations, value_by}
+use Rattle.fast_reader.specs.Plans.{plans, word_in, second_in, tail_in, mode_in, order_in, group_in, digit_operations, value_by}
 use Rattle.fast_reader.proofs.Slots.{mode_of, still_head, head_still, value_still, whole}
 use Rattle.fast_reader.proofs.Plain.{word_of, found_then}
 use Rattle.fast_reader.proofs.Placing.{prefix_repeats, prefix_some, rm_head, rm_value}
@@ -284,7 +280,7 @@ module _ (off start p : ℕ) (s : List ℕ) (bs : Bytes s) (there : start + 2 �
   S₀ = shape_of c₀ x₀
 
   -- whose operation, length and operands are known
-  assembled : (row : Row) → row_of c₀ (digit x₀) ≡ row → row_in row.shape ≡ row → (op : Operation) → found_at S₀ c₀ x₀ ≡ D.Some op
+  assembled : (row : Row) → row_of c₀ (digit x₀) ≡ row → row_in row.shape ≡ row → (op : Operation) → found_at S₀ c₀ x₀ ≡ Some op
       → names_memory (any_form S₀) x₀ ≡ ltb (mode x₀) 3 → tail_length (any_form S₀) x₀ ≡ r / 0x1000000 + tail_in q → has_second (extension_at S₀.class) ≡ true
       → (w : Words) → w.head ≡ start + 2 + r / 0x1000000 + tail_in q + 256 * (number_of op + 256 * (size_number (width_of (any_form S₀)) + 256 * (form_at S₀.class c₀ x₀).opcode))
       → w.extension ≡ extension_number (form_at S₀.class c₀ x₀).extension

@@ -1,18 +1,16 @@
 -- First bytes that no ModRM follows: what a plan says of them, computed over all, and the words that it gives.
 -- Assumes nothing.
+use Rattle.std.specs.Prelude.{None, Option, Some}
 use mathlib.Core.Path.{◌≡◌, refl, sym, ◌∙◌, ap}
-use Prim.Native.Nat.{ℕ, suc, ◌+◌, ◌-◌, ◌*◌, ◌%◌, ◌≤◌, ◌<◌}
+use Prim.Native.Nat.{ℕ, suc, ◌+◌, ◌-◌, ◌*◌, ◌≤◌, ◌<◌}
 use native.Mathlib.Omega.{arith}
 use mathlib.Core.Bool.{Bool, true, false}
 use mathlib.Core.List.{List, [], ◌∷◌}
-use lib.Dec.{eqb, ltb}
+use lib.Dec.{eqb}
 use lib.ListN.{length, get_or, take, drop}
 use borrow.Author.Tests.{eq-eqb, ne_eqb}
-use Rattle.mrc_compiler.specs.declared.encoder.OperandSize.{OperandSize}
 use Rattle.mrc_compiler.specs.declared.operations.Operation.{Operation}
-use Rattle.mrc_compiler.specs.declared.operations.OptionOperation.{OptionOperation}
-use Rattle.mrc_compiler.specs.declared.operations.OptionOperation.TheVariants as D
-use Rattle.mrc_compiler.specs.Choose.{pick, both}
+use Rattle.mrc_compiler.specs.Choose.{pick}
 use Rattle.mrc_compiler.specs.Operations.{number_of, operations}
 use Rattle.x86.specs.Listing.{Bytes}
 use Rattle.x86.specs.Instructions.{instruction}
@@ -21,20 +19,17 @@ use Rattle.x86.specs.Reading.{at, width_of, has_second, memory_length, tail_leng
 use Rattle.x86.specs.Rows.{rows}
 use Rattle.read_table.specs.Rows.{found_at, exchanges, tests_register, extension_at, any_form, form_at}
 use Rattle.read_table.proofs.Agree.{table, table_at, shape_of}
-use Rattle.reader.specs.declared.Decoded.{Decoded}
-use Rattle.reader.specs.declared.Decoded.TheVariants.{Whole}
 use Rattle.reader.specs.Answer.{decoded}
 use Rattle.reader.specs.ByRow.{decoded_shape, decoded_opcode}
 use Rattle.reader.proofs.Laws.{rest, read_on, plain_decoded}
-use Rattle.fast_reader.specs.declared.Words.{Words}
-use Rattle.fast_reader.specs.Words.{extension_number, operand_head, operand_values, Reads}
+use Rattle.fast_reader.specs.Words.{extension_number, operand_head, Reads}
 use Rattle.fast_reader.specs.Plans.{plans, word_in, first_in, extension_in, second_in, tail_in, mode_in, order_in, group_in, value_by}
 use Rattle.fast_reader.proofs.Slots.{mode_of, still_head, head_still, value_still, whole}
 
 -- operation, width and opcode as a plan has them; too much where there is no operation
-abbrev pub word_of : OptionOperation → ℕ → ℕ → ℕ
-word_of D.None w o = 0x1000000
-word_of (D.Some op) w o = number_of op + 256 * (w + 256 * o)
+abbrev pub word_of : Option Operation → ℕ → ℕ → ℕ
+word_of None w o = 0x1000000
+word_of (Some op) w o = number_of op + 256 * (w + 256 * o)
 
 pub record Bare : Type 0 where
   pub unused : Bool
@@ -104,10 +99,10 @@ is_bare_lem : (c : ℕ) → c < 256 → group_in (get_or plans c 0) ≡ 1 → ba
 is_bare_lem c h g = rw (eq-eqb (group_in (get_or plans c 0)) 1 g) at (table_at 256 (λ c. pick (is_bare c) (bare_of c) (bare_in 0)) (λ c. pick (is_bare c) (bare_in (get_or plans c 0)) (bare_in 0)) bares c h)
 
 -- an operation is found where the word is one
-pub found_then : {A : Type 0} (o : OptionOperation) (w r k : ℕ) → word_of o w r ≡ k → k < 0x1000000
-    → ((op : Operation) → o ≡ D.Some op → number_of op + 256 * (w + 256 * r) ≡ k → A) → A
-found_then D.None w r k e h f = absurd (omega arith)
-found_then (D.Some op) w r k e h f = f op refl e
+pub found_then : {A : Type 0} (o : Option Operation) (w r k : ℕ) → word_of o w r ≡ k → k < 0x1000000
+    → ((op : Operation) → o ≡ Some op → number_of op + 256 * (w + 256 * r) ≡ k → A) → A
+found_then None w r k e h f = absurd (omega arith)
+found_then (Some op) w r k e h f = f op refl e
 
 opened : (off c : ℕ) (t : List ℕ) → Bytes (c ∷ t) → is_repeat c ≡ false → prefix c ≡ false → eqb (get_or rows c 0) 0 ≡ false
     → has_second (extension_at (shape_of c 0).class) ≡ false → decoded off (c ∷ t) ≡ decoded_shape off 0 (shape_of c 0) c 0 t

@@ -1,17 +1,17 @@
 -- String operations behind a repeat, computed over all first bytes.
 -- Assumes nothing.
+use Rattle.std.specs.Prelude.{Ok, Some}
 use mathlib.Core.Path.{◌≡◌, refl, sym, ◌∙◌, ap}
-use Prim.Native.Nat.{ℕ, ◌+◌, ◌*◌, ◌%◌, ◌≤◌, ◌<◌}
+use Prim.Native.Nat.{ℕ, ◌≤◌, ◌<◌}
 use native.Mathlib.Omega.{arith}
-use mathlib.Core.Bool.{Bool, true, false}
-use mathlib.Core.List.{List, [], ◌∷◌}
+use mathlib.Core.Bool.{Bool, true}
+use mathlib.Core.List.{List}
 use lib.Dec.{eqb}
 use lib.ListN.{length, get_or}
 use borrow.Author.Tests.{eqb-true}
 use Rattle.mrc_compiler.specs.declared.encoder.OperandSize.TheVariants as S
 use Rattle.mrc_compiler.specs.declared.operations.Operation.{Operation}
-use Rattle.mrc_compiler.specs.declared.operations.OptionOperation.TheVariants as D
-use Rattle.mrc_compiler.specs.Choose.{pick, both}
+use Rattle.mrc_compiler.specs.Choose.{pick}
 use Rattle.mrc_compiler.specs.Operations.{number_of, operations, is_string}
 use Rattle.x86.specs.declared.Operand.TheVariants as O
 use Rattle.x86.specs.Forms.{forms}
@@ -22,8 +22,7 @@ use Rattle.x86.specs.Rows.{plain}
 use Rattle.x86.proofs.Tests.{both_first}
 use Rattle.read_table.specs.Rows.{found_of, form_at}
 use Rattle.read_table.proofs.Agree.{table, table_at}
-use Rattle.reader.specs.declared.Decoded.TheVariants.{Whole}
-use Rattle.reader.specs.Answer.{decoded}
+use Rattle.reader.specs.Answer.{reading}
 use Rattle.reader.specs.ByRow.{decoded_repeat}
 use Rattle.reader.proofs.Laws.{two_repeat, with_repeat}
 use Rattle.fast_reader.specs.Words.{operand_head, operand_values, repeated_words, Reads}
@@ -55,8 +54,8 @@ none_value : operand_values O.None ≡ 0
 unfolding operand_values
 none_value = refl
 
-found_repeat : (b c : ℕ) (op : Operation) → found_of plain c 0 ≡ D.Some op
-    → decoded_repeat b c ≡ Whole (repeated b (instruction op S.Unspecified O.None O.None)) (form_at plain c 0) 2
+found_repeat : (b c : ℕ) (op : Operation) → found_of plain c 0 ≡ Some op
+    → decoded_repeat b c ≡ Ok (reading (repeated b (instruction op S.Unspecified O.None O.None)) (form_at plain c 0) 2)
 found_repeat b c op e = rw e refl
 
 pub repeat_reads : (off q : ℕ) (s : List ℕ) → 2 ≤ length s → Bytes s → is_repeat (get_or s 0 0) ≡ true → q ≡ get_or plans (get_or s 1 0) 0 → string_in q ≡ true

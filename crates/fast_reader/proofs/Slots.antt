@@ -1,30 +1,28 @@
 -- Readings whose operands keep their places, and the words of operands by their slots.
 -- Assumes nothing.
-use mathlib.Core.Path.{◌≡◌, refl, sym, ◌∙◌, ap}
-use Prim.Native.Nat.{ℕ, suc, ◌+◌, ◌*◌, ◌%◌, ◌≤◌, ◌<◌}
+use Rattle.std.specs.Prelude.{Ok, Some}
+use mathlib.Core.Path.{◌≡◌, refl, ◌∙◌, ap}
+use Prim.Native.Nat.{ℕ, ◌+◌, ◌≤◌, ◌<◌}
 use native.Mathlib.Omega.{arith}
 use mathlib.Core.Bool.{Bool, true, false}
-use mathlib.Core.List.{List, [], ◌∷◌}
+use mathlib.Core.List.{List, []}
 use lib.Dec.{eqb, ltb}
 use lib.ListN.{length, get_or, drop}
 use borrow.Author.Tests.{le-leb}
 use Rattle.mrc_compiler.specs.declared.encoder.OperandSize.{OperandSize}
 use Rattle.mrc_compiler.specs.declared.operations.Operation.{Operation}
 use Rattle.mrc_compiler.specs.declared.operations.Operation.TheVariants.{XCHG, TEST}
-use Rattle.mrc_compiler.specs.declared.operations.OptionOperation.{OptionOperation}
-use Rattle.mrc_compiler.specs.declared.operations.OptionOperation.TheVariants as D
 use Rattle.mrc_compiler.specs.Choose.{pick, both, either}
-use Rattle.mrc_compiler.specs.Operations.{number_of, same_operation}
+use Rattle.mrc_compiler.specs.Operations.{same_operation}
 use Rattle.x86.specs.declared.Instruction.{Instruction}
 use Rattle.x86.specs.declared.Operand.{Operand}
 use Rattle.x86.specs.Forms.{Slot, rm, rm_near, mem, mem_far, reg, sreg, sreg_not_cs, acc, low3, bits34, bits34_not_cs, cl, dx, one, moffs, xlat, ib, iw, ib_sx, cb, cw, ptr, nil}
 use Rattle.x86.specs.Instructions.{instruction, memory_first, canonical}
 use Rattle.x86.specs.Listing.{Bytes}
-use Rattle.x86.specs.Reading.{about, at, sign_extended, width_of, head_length, memory_length, tail_length, names_memory, read_form, instruction_of}
-use Rattle.x86.specs.Rows.{Shape}
-use Rattle.read_table.specs.Rows.{found_at, exchanges, tests_register, shape_form, any_form, form_at}
+use Rattle.x86.specs.Reading.{at, sign_extended, width_of, head_length, memory_length, tail_length, names_memory, read_form}
+use Rattle.read_table.specs.Rows.{found_at, exchanges, tests_register, any_form, form_at}
 use Rattle.read_table.proofs.Agree.{shape_of, settles, tests}
-use Rattle.reader.specs.declared.Decoded.TheVariants.{Whole}
+use Rattle.reader.specs.Answer.{reading}
 use Rattle.reader.specs.ByRow.{read_shape, decoded_shape}
 use Rattle.reader.proofs.Laws.{alike_tests}
 use Rattle.fast_reader.specs.Words.{operand_head, operand_values}
@@ -37,7 +35,7 @@ unfolding canonical
 kept op w a b e f = rw (e, f) refl
 
 -- the reading of first byte c and second byte x, where the operation found is neither XCHG nor TEST of a register
-module _ (off p c x : ℕ) (t : List ℕ) (op : Operation) (below : c < 256) (found : found_at (shape_of c x) c x ≡ D.Some op)
+module _ (off p c x : ℕ) (t : List ℕ) (op : Operation) (below : c < 256) (found : found_at (shape_of c x) c x ≡ Some op)
     (no_xchg : exchanges c ≡ false) (no_test : tests_register c ≡ false) where
   as_placed : (w : OperandSize) (a : Operand) (next : ℕ) (v u : List ℕ)
       → canonical op w a (at (shape_of c x).second p c x next v u) ≡ instruction op w a (at (shape_of c x).second p c x next v u)
@@ -49,10 +47,10 @@ module _ (off p c x : ℕ) (t : List ℕ) (op : Operation) (below : c < 256) (fo
       → decoded_shape off p (shape_of c x) c x t
       ≡ (let next = off + (head_length p (any_form (shape_of c x)) + tail_length (any_form (shape_of c x)) x) in
       let u = drop (memory_length (any_form (shape_of c x)) x) t in
-      Whole (instruction op (width_of (any_form (shape_of c x))) (at (shape_of c x).first p c x next t u) (at (shape_of c x).second p c x next t u))
-      (form_at (shape_of c x).class c x) (head_length p (any_form (shape_of c x)) + tail_length (any_form (shape_of c x)) x))
+      Ok (reading (instruction op (width_of (any_form (shape_of c x))) (at (shape_of c x).first p c x next t u) (at (shape_of c x).second p c x next t u))
+      (form_at (shape_of c x).class c x) (head_length p (any_form (shape_of c x)) + tail_length (any_form (shape_of c x)) x)))
   unfolding decoded_shape read_shape read_form
-  whole y h = rw (found, y, le-leb _ _ h) (ap (λ (m : Instruction). Whole m (form_at (shape_of c x).class c x) (head_length p (any_form (shape_of c x)) + tail_length (any_form (shape_of c x)) x)) (as_placed _ _ _ _ _))
+  whole y h = rw (found, y, le-leb _ _ h) (ap (λ (m : Instruction). Ok (reading m (form_at (shape_of c x).class c x) (head_length p (any_form (shape_of c x)) + tail_length (any_form (shape_of c x)) x))) (as_placed _ _ _ _ _))
 
 -- ---- slots whose operand is told by the first byte, but for its value: how it is read; 8 for the others
 abbrev pub mode_of : Slot → ℕ

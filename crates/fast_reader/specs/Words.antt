@@ -2,7 +2,7 @@
 -- The words: six u32. The first holds length, operation (002's number), width (0 none, 1 Byte, 2 Word) and the form's opcode, a byte each; the second the form's
 -- extension and the repeat; then two for each operand: kind, number and segment, a byte each, and displacement, immediate or target with a far target's segment, a word each.
 -- Definitions only.
-use Rattle.std.specs.Prelude.{ℕ, ◌+◌, ◌*◌, ◌/◌, ◌%◌, true, eqb, ltb, ◌≡◌, List, []}
+use Rattle.std.specs.Prelude.{ℕ, ◌+◌, ◌*◌, ◌/◌, ◌%◌, true, eqb, ltb, ◌≡◌, List, [], Ok}
 use Rattle.mrc_compiler.specs.declared.ast.Segment.{Segment}
 use Rattle.mrc_compiler.specs.declared.ast.Segment.TheVariants as G
 use Rattle.mrc_compiler.specs.Operations.{number_of}
@@ -15,8 +15,7 @@ use Rattle.x86_forms.specs.declared.FormName.{FormName}
 use Rattle.x86.specs.Operands.{type_of, displacement_in, value_in, far_segment_in, size_number}
 use Rattle.mrc_compiler.specs.Choose.{either}
 use Rattle.x86.specs.Reading.{mode, low, displacement_length, rm_at}
-use Rattle.reader.specs.declared.Decoded.TheVariants.{Whole}
-use Rattle.reader.specs.Answer.{decoded}
+use Rattle.reader.specs.Answer.{reading, decoded}
 use Rattle.fast_reader.specs.declared.Words.{Words}
 
 -- ES, CS, SS, DS
@@ -70,7 +69,7 @@ pub record Reads (off : ℕ) (s : List ℕ) (w : Words) : Type 0 where
   pub insn : Instruction
   pub form : FormName
   pub n : ℕ
-  pub is : decoded off s ≡ Whole insn form n
+  pub is : decoded off s ≡ Ok (reading insn form n)
   pub head : w.head ≡ head_of insn form n
   pub extension : w.extension ≡ extension_number form.extension + 256 * insn.repeat
   pub a : w.a ≡ operand_head insn.first

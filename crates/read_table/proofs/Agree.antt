@@ -1,7 +1,8 @@
 -- The code's tables say what the forms say: computed over all first and second bytes, and the rules that it gives.
 -- Assumes nothing.
+use Rattle.std.specs.Prelude.{None, Option, Some}
 use mathlib.Core.Path.{◌≡◌, refl, subst, ap}
-use Prim.Native.Nat.{ℕ, zero, suc, ◌+◌, ◌-◌, ◌*◌, ◌≤◌, ◌<◌}
+use Prim.Native.Nat.{ℕ, zero, suc, ◌+◌, ◌-◌, ◌≤◌, ◌<◌}
 use native.Mathlib.Omega.{arith}
 use native.Mathlib.Nat.{not-suc-le-zero, eq-or-lt_of_le, le_of_suc-le-suc}
 use mathlib.Core.Bool.{Bool, true, false}
@@ -13,8 +14,6 @@ use borrow.Author.Tests.{ltb-true, ltb-false}
 use Rattle.mrc_compiler.specs.declared.operations.Operation.{Operation}
 use Rattle.mrc_compiler.specs.declared.operations.Operation.TheVariants as Op
 use Rattle.mrc_compiler.specs.Choose.{pick, both}
-use Rattle.mrc_compiler.specs.declared.operations.OptionOperation.{OptionOperation}
-use Rattle.mrc_compiler.specs.declared.operations.OptionOperation.TheVariants as N
 use Rattle.mrc_compiler.specs.Operations.{number_of, operations, same_operation}
 use Rattle.x86_forms.specs.declared.FormName.{FormName}
 use Rattle.x86.specs.Forms.{Slot, Form, forms}
@@ -36,9 +35,9 @@ seen [] = none
 seen (f ∷ fs) = one f.operation (name_of f) (has_second f.extension) (as_read f.first) (as_read f.second)
 
 -- by the row's shape
-abbrev pub said_by : Shape → ℕ → ℕ → OptionOperation → Said
-said_by s c x N.None = none
-said_by s c x (N.Some op) = one op (form_at s.class c x) (has_second (extension_at s.class)) s.first s.second
+abbrev pub said_by : Shape → ℕ → ℕ → Option Operation → Said
+said_by s c x None = none
+said_by s c x (Some op) = one op (form_at s.class c x) (has_second (extension_at s.class)) s.first s.second
 
 abbrev pub said : Shape → ℕ → ℕ → Said
 said s c x = said_by s c x (found_at s c x)
@@ -163,9 +162,9 @@ pub agrees : (c : ℕ) → c < 256 → Agrees c (get_or rows c 0) (shape_of c) (
 agrees c h = agreed c (get_or rows c 0) (shape_of c) (starting_with c) (row_agrees c h)
 
 -- ---- XCHG by its first bytes, and TEST without an immediate
-abbrev found_ok : ℕ → Slot → OptionOperation → Bool
-found_ok c b N.None = true
-found_ok c b (N.Some op) =
+abbrev found_ok : ℕ → Slot → Option Operation → Bool
+found_ok c b None = true
+found_ok c b (Some op) =
     both (same (same_operation op Op.XCHG) (exchanges c)) (same (both (same_operation op Op.TEST) (eqb (about b).takes 0)) (tests_register c))
 
 -- with digit d; b is the second slot
@@ -199,22 +198,22 @@ found_ok_lem K.second_0a b c x t = go (eqb x 0x0A)
     go true = t
     go false = tt
 
-found_at_lem : (c x : ℕ) (op : Operation) → c < 256 → found_at (shape_of c x) c x ≡ N.Some op → T (found_ok c (shape_of c x).second (N.Some op))
+found_at_lem : (c x : ℕ) (op : Operation) → c < 256 → found_at (shape_of c x) c x ≡ Some op → T (found_ok c (shape_of c x).second (Some op))
 unfolding found_at
 found_at_lem c x op h e = rw e at (go (slots_fit (shape_of c x) x))
   where
-    go : (q : Bool) → T (found_ok c (shape_of c x).second (pick q (found_of (shape_of c x).class c x) N.None))
+    go : (q : Bool) → T (found_ok c (shape_of c x).second (pick q (found_of (shape_of c x).class c x) None))
     go true = found_ok_lem (shape_of c x).class (shape_of c x).second c x (up_to_at 8 (row_ok c) (up_to_at 256 (λ c. up_to 8 (row_ok c)) rows_ok c h) (digit x) (omega arith))
     go false = tt
 
 -- the operation found is XCHG just where the first byte is one of XCHG's
-pub settles : (c x : ℕ) (op : Operation) → c < 256 → found_at (shape_of c x) c x ≡ N.Some op → same_operation op Op.XCHG ≡ exchanges c
+pub settles : (c x : ℕ) (op : Operation) → c < 256 → found_at (shape_of c x) c x ≡ Some op → same_operation op Op.XCHG ≡ exchanges c
 settles c x op h e =
     same_is (same_operation op Op.XCHG) (exchanges c)
     (both_left (same (same_operation op Op.XCHG) (exchanges c)) (same (both (same_operation op Op.TEST) (eqb (about (shape_of c x).second).takes 0)) (tests_register c)) (found_at_lem c x op h e))
 
 -- it is TEST without an immediate just where the first byte is 84 or 85
-pub tests : (c x : ℕ) (op : Operation) → c < 256 → found_at (shape_of c x) c x ≡ N.Some op
+pub tests : (c x : ℕ) (op : Operation) → c < 256 → found_at (shape_of c x) c x ≡ Some op
     → both (same_operation op Op.TEST) (eqb (about (shape_of c x).second).takes 0) ≡ tests_register c
 tests c x op h e =
     same_is (both (same_operation op Op.TEST) (eqb (about (shape_of c x).second).takes 0)) (tests_register c)

@@ -1,11 +1,9 @@
 -- The table of 256 rows as the code has it: shape and operation are looked up by the first byte, and by the digit where it decides.
 -- Nobody has to believe it: proofs/Agree shows that it says what the forms say.
 -- Definitions only.
-use Rattle.std.specs.Prelude.{ℕ, ◌+◌, ◌*◌, ◌/◌, ◌%◌, Bool, List, [], ◌∷◌, eqb, ltb, get_or}
+use Rattle.std.specs.Prelude.{ℕ, ◌+◌, ◌*◌, ◌/◌, ◌%◌, Bool, List, [], ◌∷◌, eqb, ltb, get_or, None, Option}
 use Rattle.mrc_compiler.specs.declared.operations.Operation.{Operation}
 use Rattle.mrc_compiler.specs.declared.operations.Operation.TheVariants as Op
-use Rattle.mrc_compiler.specs.declared.operations.OptionOperation.{OptionOperation}
-use Rattle.mrc_compiler.specs.declared.operations.OptionOperation.TheVariants as N
 use Rattle.mrc_compiler.specs.Choose.{pick, both, either}
 use Rattle.mrc_compiler.specs.Operations.{operation_numbered}
 use Rattle.x86_forms.specs.declared.FormName.{FormName}
@@ -59,7 +57,7 @@ operation_numbers =
     -- the line of none
     ∷ 99 ∷ []
 
-abbrev pub operation_at : ℕ → OptionOperation
+abbrev pub operation_at : ℕ → Option Operation
 operation_at n = operation_numbered (get_or operation_numbers n 0)
 
 -- the first line of the digits of a first byte whose digit decides
@@ -77,15 +75,15 @@ line_of K.modrm c x = c
 line_of K.modrm_digit c x = digits_of c + digit x
 line_of K.second_0a c x = pick (eqb x 0x0A) c 312
 
-abbrev pub found_of : Class → ℕ → ℕ → OptionOperation
+abbrev pub found_of : Class → ℕ → ℕ → Option Operation
 found_of k c x = operation_at (line_of k c x)
 
 -- do the slots have the second byte x?
 abbrev pub slots_fit : Shape → ℕ → Bool
 slots_fit s x = both (allows_second (about s.first).restriction x) (allows_second (about s.second).restriction x)
 
-unfoldable pub found_at : Shape → ℕ → ℕ → OptionOperation
-found_at s c x = pick (slots_fit s x) (found_of s.class c x) N.None
+unfoldable pub found_at : Shape → ℕ → ℕ → Option Operation
+found_at s c x = pick (slots_fit s x) (found_of s.class c x) None
 
 -- 86, 87 and 90 to 97 are XCHG's
 abbrev pub exchanges : ℕ → Bool

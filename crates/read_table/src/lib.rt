@@ -3,16 +3,15 @@
 
 ghost use Rattle.std.specs.Prelude.{◌≡◌, ◌≤◌, get_or};
 ghost use Rattle.mrc_compiler.specs.Choose.{pick, both};
-ghost use Rattle.mrc_compiler.specs.declared.operations.OptionOperation.TheVariants as N;
 ghost use Rattle.x86.specs.Reading.{digit, allows_second, has_second};
 ghost use Rattle.x86.specs.Rows.{rows, by_digit};
 ghost use Rattle.read_table.specs.Rows.{digits_of, line_of, operation_at, found_of, exchanges, tests_register, extension_at, form_at};
 
-use mrc_compiler::operations::{Operation, OptionOperation};
+use mrc_compiler::operations::Operation;
 use x86_forms::{Class, Extension, FormName, Restriction};
 
 // The table of 256 rows: for each first byte the number of its shape (x86, specs/Rows), 0 where no form begins.
-const ROWS: [u8; 256] = [
+static ROWS: [u8; 256] = [
     1, // 00
     2, // 01
     3, // 02
@@ -273,7 +272,7 @@ const ROWS: [u8; 256] = [
 
 // The numbers of operations by lines: 0 to 255 by first byte, then eight lines for the digits of 80, 81 and 83; 8F; C6 and C7; D0 to D3; F6 and F7; FE; FF; then the
 // line of none. 99, which is no operation's, where no form begins, and in the first 256 where the digit decides.
-const OPERATIONS: [u8; 313] = [
+static OPERATIONS: [u8; 313] = [
     14, // 00 ADD
     14, // 01 ADD
     14, // 02 ADD
@@ -589,12 +588,11 @@ const OPERATIONS: [u8; 313] = [
     99, // none
 ];
 
-// The row of a first byte.
+// The row of a first byte, 0 where no form begins: the table has a number for each of the 256 (x86, specs/Rows, `rows`).
 pub fn row_of(c: u8) -> u8
     ensures { result ≡ get_or rows c 0 }
 {
-    let at = c as usize;
-    ROWS[at]
+    ROWS[c as usize]
 }
 
 // The shape of a row, where its first byte is followed by x: in three rows the digit decides.
@@ -611,12 +609,11 @@ pub fn shape_row(row: u8, x: u8) -> u8
 }
 
 // The operation of a line.
-fn operation_at(line: u16) -> OptionOperation
+fn operation_at(line: u16) -> Option<Operation>
     requires { line ≤ 312 }
     ensures { result ≡ operation_at line }
 {
-    let at = line as usize;
-    Operation::numbered(OPERATIONS[at])
+    Operation::numbered(OPERATIONS[line as usize])
 }
 
 // The first line of the digits of a first byte whose digit decides.
@@ -648,23 +645,15 @@ fn line_of(class: Class, c: u8, x: u8) -> u16
     ensures last { result ≤ 312 }
 {
     match class {
-        Class::Unused => 312,
-        Class::Plain => c as u16,
-        Class::PlusRegister => c as u16,
-        Class::PlusSegment => c as u16,
-        Class::ModRm => c as u16,
+        Class::Plain | Class::PlusRegister | Class::PlusSegment | Class::ModRm => c as u16,
         Class::Digit => digits_of(c) + (x / 8 % 8) as u16,
-        Class::Second0A => {
-            if x == 0x0A {
-                return c as u16;
-            }
-            312
-        }
+        Class::Second0A if x == 0x0A => c as u16,
+        Class::Second0A | Class::Unused => 312,
     }
 }
 
 // Their operation, whatever the slots say.
-fn found_of(class: Class, c: u8, x: u8) -> OptionOperation
+fn found_of(class: Class, c: u8, x: u8) -> Option<Operation>
     ensures { result ≡ found_of class c x }
 {
     operation_at(line_of(class, c, x))
@@ -710,25 +699,14 @@ pub fn form_at(class: Class, c: u8, x: u8) -> FormName
 pub fn has_second(class: Class) -> bool
     ensures { result ≡ has_second (extension_at class) }
 {
-    match class {
-        Class::Unused => false,
-        Class::Plain => false,
-        Class::PlusRegister => false,
-        Class::PlusSegment => false,
-        Class::ModRm => true,
-        Class::Digit => true,
-        Class::Second0A => true,
-    }
+    matches!(class, Class::ModRm | Class::Digit | Class::Second0A)
 }
 
 // Do two slots have the second byte x?
 fn slots_fit(first: Restriction, second: Restriction, x: u8) -> bool
     ensures { result ≡ both (allows_second first x) (allows_second second x) }
 {
-    if read_slots::allows_second(first, x) {
-        return read_slots::allows_second(second, x);
-    }
-    false
+    read_slots::allows_second(first, x) && read_slots::allows_second(second, x)
 }
 
 // The operation of first byte c and second byte x in a row of this class, where its slots have them.
@@ -738,23 +716,20 @@ pub fn found_at(
     second: Restriction,
     c: u8,
     x: u8,
-) -> OptionOperation
-    ensures { result ≡ pick (both (allows_second first x) (allows_second second x)) (found_of class c x) N.None }
+) -> Option<Operation>
+    ensures { result ≡ pick (both (allows_second first x) (allows_second second x)) (found_of class c x) None }
 {
     if slots_fit(first, second, x) {
         return found_of(class, c, x);
     }
-    OptionOperation::None
+    None
 }
 
 // Is the first byte one of XCHG's?
 pub fn is_exchange(c: u8) -> bool
     ensures { result ≡ exchanges c }
 {
-    if c / 2 == 0x43 {
-        return true;
-    }
-    c / 8 == 0x12
+    c / 2 == 0x43 || c / 8 == 0x12
 }
 
 // Is it one of TEST's of a register?

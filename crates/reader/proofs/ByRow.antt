@@ -1,5 +1,6 @@
 -- The reading by rows is the reading by forms, with the form that reads.
 -- Assumes nothing.
+use Rattle.std.specs.Prelude.{Err, None, Option, Some}
 use mathlib.Core.Path.{◌≡◌, refl, sym}
 use Prim.Native.Nat.{ℕ, suc}
 use mathlib.Core.Bool.{Bool, true, false}
@@ -8,14 +9,12 @@ use lib.Dec.{eqb}
 use lib.ListN.{get_or}
 use Rattle.mrc_compiler.specs.declared.operations.Operation.{Operation}
 use Rattle.mrc_compiler.specs.Choose.{pick, either}
-use Rattle.x86.specs.declared.Read.TheVariants as R
+use Rattle.x86.specs.declared.ReadError.TheVariants.{NotAnInstruction}
 use Rattle.x86.specs.Forms.{Slot, Extension, Form, form}
 use Rattle.x86.specs.Listing.{Bytes}
 use Rattle.x86.specs.Reading.{some, starting_with, fitting, has_second, may_name_memory, read_form, read_first, read_behind, read_second, read_opcode}
 use Rattle.x86.specs.Rows.{Shape, as_read, rows}
 use Rattle.x86.proofs.Rows.{as_read_lem}
-use Rattle.mrc_compiler.specs.declared.operations.OptionOperation.{OptionOperation}
-use Rattle.mrc_compiler.specs.declared.operations.OptionOperation.TheVariants as D
 use Rattle.read_table.specs.Rows.{name_of, no_form, found_at, extension_at, shape_form, any_form, form_at}
 use Rattle.read_table.proofs.Agree.{seen, said_by, said, Agrees, agrees}
 use Rattle.reader.specs.Answer.{first_of, going_on, form_behind, with_form}
@@ -36,13 +35,13 @@ shape_reads : (off p c x : ℕ) (t : List ℕ) (s : Shape) (gs : List Form) → 
 unfolding decoded_shape read_shape
 shape_reads off p c x t s gs e = go (found_at s c x) gs e
   where
-    go : (o : OptionOperation) (gs : List Form) → said_by s c x o ≡ seen gs
-        → with_form (by_found o R.Nothing (λ op. read_form off p c x t (shape_form s op))) (form_at s.class c x)
+    go : (o : Option Operation) (gs : List Form) → said_by s c x o ≡ seen gs
+        → with_form (by_found o (Err NotAnInstruction) (λ op. read_form off p c x t (shape_form s op))) (form_at s.class c x)
         ≡ with_form (read_first off p c x t gs) (first_of gs)
-    go D.None [] e = refl
-    go D.None (g ∷ gs) e = cc
-    go (D.Some op) [] e = cc
-    go (D.Some op) (g ∷ gs) e =
+    go None [] e = refl
+    go None (g ∷ gs) e = cc
+    go (Some op) [] e = cc
+    go (Some op) (g ∷ gs) e =
         let n : form_at s.class c x ≡ name_of g = cc in
         rw (n, alike off p c x t g (extension_at s.class) op s.first s.second (cc) (cc) (cc) (cc))
 
@@ -52,15 +51,15 @@ follow true m f fs e = refl
 follow false m f fs e = sym e
 
 behind : (off p c n : ℕ) (t : List ℕ) (fs : List Form) → Bytes t → Agrees c n (shape_with n) fs
-    → pick (eqb n 0) (with_form R.Nothing no_form) (decoded_behind off p n c t) ≡ with_form (read_behind off p c fs t) (first_of (going_on fs t))
+    → pick (eqb n 0) (with_form (Err NotAnInstruction) no_form) (decoded_behind off p n c t) ≡ with_form (read_behind off p c fs t) (first_of (going_on fs t))
 behind off p c n t [] bs h = rw h.unused refl
 behind off p c n t (f ∷ fs) bs h =
     rw (h.unused, follow (eqb p 0) (may_name_memory (any_form (shape_with n 0))) f fs h.memory)
     (go (may_follow p (shape_with n 0)) (has_second (extension_at (shape_with n 0).class)) (some (λ f. has_second f.extension) (f ∷ fs)) h.second refl t bs)
   where
     go : (o k l : Bool) → k ≡ l → some (λ f. has_second f.extension) (f ∷ fs) ≡ l → (t : List ℕ) → Bytes t
-        → pick o (pick k (decoded_second off p n c t) (decoded_shape off p (shape_with n 0) c 0 t)) (with_form R.Nothing no_form)
-        ≡ with_form (pick o (pick l (read_second off p c (f ∷ fs) t) (read_first off p c 0 t (f ∷ fs))) R.Nothing) (first_of (pick l (fitting (get_or t 0 0) (f ∷ fs)) (f ∷ fs)))
+        → pick o (pick k (decoded_second off p n c t) (decoded_shape off p (shape_with n 0) c 0 t)) (with_form (Err NotAnInstruction) no_form)
+        ≡ with_form (pick o (pick l (read_second off p c (f ∷ fs) t) (read_first off p c 0 t (f ∷ fs))) (Err NotAnInstruction)) (first_of (pick l (fitting (get_or t 0 0) (f ∷ fs)) (f ∷ fs)))
     go false k l e z t bs = refl
     go true true true e z [] bs = refl
     go true true true e z (x ∷ t) bs = shape_reads off p c x t (shape_with n x) (fitting x (f ∷ fs)) (h.with_second x (bs 0) z)

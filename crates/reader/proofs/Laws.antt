@@ -1,44 +1,40 @@
 -- The cases of the reading by rows, from what the code learns on the way.
 -- Assumes nothing.
+use Rattle.std.specs.Prelude.{◌==◌, Ok, Err, None, Option, Some}
 use mathlib.Core.Path.{◌≡◌, refl, sym, ◌∙◌, ap}
 use mathlib.Core.Logic.{◌⊎◌, inl, inr}
-use Prim.Native.Nat.{ℕ, suc, ◌+◌, ◌-◌, ◌≤◌, ◌<◌}
+use Prim.Native.Nat.{ℕ, zero, suc, ◌+◌, ◌-◌, ◌≤◌, ◌<◌}
 use native.Mathlib.Omega.{arith}
 use mathlib.Core.Bool.{Bool, true, false}
-use mathlib.Core.List.{List, [], ◌∷◌, Memᴰ}
+use mathlib.Core.List.{List, [], ◌∷◌}
 use lib.Dec.{T, eqb, ltb, leb}
 use lib.ListN.{length, take, drop, get_or, length-drop}
 use lib.Seq.{take_all}
-use borrow.Author.Tests.{eq-eqb, ne_eqb, ltb-true, ltb-false, lt-ltb, le-ltb, le-leb, lt-leb}
+use borrow.Author.Tests.{eq-eqb, ne_eqb, eqb-true, ltb-true, ltb-false, le-leb, lt-leb}
 use Rattle.mrc_compiler.specs.declared.encoder.OperandSize.{OperandSize}
 use Rattle.mrc_compiler.specs.declared.operations.Operation.{Operation}
 use Rattle.mrc_compiler.specs.declared.operations.Operation.TheVariants.{TEST}
 use Rattle.mrc_compiler.specs.Choose.{pick, both, either, by_size}
 use Rattle.mrc_compiler.specs.Operations.{number_of, same_operation, operations, is_string}
 use Rattle.mrc_compiler.proofs.Numbers.{operation_eq}
-use Rattle.mrc_compiler.specs.declared.operations.OptionOperation.{OptionOperation}
-use Rattle.mrc_compiler.specs.declared.operations.OptionOperation.TheVariants as D
 use Rattle.x86_forms.specs.declared.FormName.{FormName}
 use Rattle.x86.specs.declared.Operand.{Operand}
 use Rattle.x86.specs.declared.Instruction.{Instruction}
-use Rattle.x86.specs.declared.Read.{Read}
-use Rattle.x86.specs.declared.Read.TheVariants as R
+use Rattle.x86.specs.declared.ReadError.{ReadError}
+use Rattle.x86.specs.declared.ReadError.TheVariants.{NotAnInstruction, NotComplete}
 use Rattle.x86.specs.declared.Operand.TheVariants as O
 use Rattle.x86.specs.Forms.{Slot, rm, rm_near, mem, mem_far, reg, sreg, sreg_not_cs, acc, low3, bits34, bits34_not_cs, cl, dx, one, moffs, xlat, ib, iw, ib_sx, cb, cw, ptr, nil, Form, forms}
 use Rattle.x86.specs.Instructions.{by_register, memory_first, canonical}
 use Rattle.x86.specs.Listing.{Bytes}
-use Rattle.x86.specs.Reading.{About, about, at, width_of, address_length, has_second, head_length, memory_length, tail_length, in_memory, names_memory, some, starting_with, read_form, prefix, read_plain, is_repeat, begins_string, repeats, reads}
+use Rattle.x86.specs.Reading.{Read, About, about, at, width_of, address_length, has_second, head_length, memory_length, tail_length, in_memory, names_memory, some, starting_with, read_form, prefix, read_plain, is_repeat, begins_string, repeats, reads}
 use Rattle.x86.specs.Rows.{plain, Shape, rows}
 use Rattle.x86.proofs.Repeats.{bare, single, string_at}
 use Rattle.x86.proofs.Tests.{same, same_is, up_to, up_to_at, each_of, each_at}
 use Rattle.read_table.specs.Rows.{found_of, tests_register, extension_at, shape_form, any_form, form_at}
-use Rattle.reader.specs.declared.Decoded.{Decoded}
-use Rattle.reader.specs.declared.Decoded.TheVariants.{Whole, Nothing, More}
-use Rattle.reader.specs.Answer.{form_plain, form_of, with_form, decoded}
+use Rattle.reader.specs.declared.Reading.{Reading}
+use Rattle.reader.specs.Answer.{reading, Decoded, form_of, with_form, decoded}
 use Rattle.reader.specs.ByRow.{decoded_shape, shape_with, may_follow, decoded_opcode, decoded_plain, decoded_repeat}
 use Rattle.reader.proofs.ByRow.{opcode_by_row}
-
-pub ruleset tests = (eq-eqb, ne_eqb, lt-ltb, le-ltb, le-leb, lt-leb)
 
 -- the rest of a slice from n on, as the code hands it over
 pub rest : (n : ℕ) (s : List ℕ) → take (length s - n) (drop n s) ≡ drop n s
@@ -125,7 +121,7 @@ module _ (off p c x : ℕ) (t : List ℕ) (s : Shape) (op : Operation) {a b : Ab
   stands : stand ≡ either (eqb p 0) (names_memory (any_form s) x)
   stands = rw (ea, eb) at es
 
-  pub form_nothing : stand ≡ false → Nothing ≡ with_form (read_form off p c x t (shape_form s op)) (form_at s.class c x)
+  pub form_nothing : stand ≡ false → Err NotAnInstruction ≡ with_form (read_form off p c x t (shape_form s op)) (form_at s.class c x)
   unfolding read_form
   form_nothing f = rw (sym stands ∙ f) refl
 
@@ -133,7 +129,7 @@ module _ (off p c x : ℕ) (t : List ℕ) (s : Shape) (op : Operation) {a b : Ab
     tails : m + (a.takes + b.takes) ≡ tail_length (any_form s) x
     tails = rw (em, ea, eb) refl
 
-    pub form_more : length t < m + (a.takes + b.takes) → More ≡ with_form (read_form off p c x t (shape_form s op)) (form_at s.class c x)
+    pub form_more : length t < m + (a.takes + b.takes) → Err NotComplete ≡ with_form (read_form off p c x t (shape_form s op)) (form_at s.class c x)
     unfolding read_form
     form_more h =
         let l : leb (tail_length (any_form s) x) (length t) ≡ false = rw (← tails) (lt-leb (m + (a.takes + b.takes)) (length t) h) in
@@ -142,7 +138,7 @@ module _ (off p c x : ℕ) (t : List ℕ) (s : Shape) (op : Operation) {a b : Ab
     pub form_whole : {h : ℕ} {w : OperandSize} {k : Instruction} {f : FormName} → m + (a.takes + b.takes) ≤ length t → h ≡ head_length p (any_form s)
         → w ≡ by_size a.width b.width a.width a.width
         → k ≡ canonical op w (at s.first p c x (off + (h + (m + (a.takes + b.takes)))) t (drop m t)) (at s.second p c x (off + (h + (m + (a.takes + b.takes)))) t (drop m t))
-        → f ≡ form_at s.class c x → Whole k f (h + (m + (a.takes + b.takes))) ≡ with_form (read_form off p c x t (shape_form s op)) (form_at s.class c x)
+        → f ≡ form_at s.class c x → Ok (reading k f (h + (m + (a.takes + b.takes)))) ≡ with_form (read_form off p c x t (shape_form s op)) (form_at s.class c x)
     unfolding read_form
     form_whole {h} {w} {k} {f} le eh ew ek ef =
         let l : leb (tail_length (any_form s) x) (length t) ≡ true = rw (← tails) (le-leb (m + (a.takes + b.takes)) (length t) le) in
@@ -154,13 +150,21 @@ module _ (off p c x : ℕ) (t : List ℕ) (s : Shape) (op : Operation) {a b : Ab
 pub one_shape : (n x y : ℕ) → n < 45 → shape_with n x ≡ shape_with n y
 one_shape n x y h = rw (ne_eqb n 45 (λ e. omega arith), ne_eqb n 46 (λ e. omega arith), ne_eqb n 47 (λ e. omega arith))
 
+-- what the test of an empty slice says
+pub none_there : (n : ℕ) → (n == 0) ≡ true → n ≤ 0
+none_there n e = omega (arith, eqb-true n 0 e)
+
+pub some_there : (n : ℕ) → (n == 0) ≡ false → 0 < n
+some_there zero e = let z : ◌≡◌ {A = ℕ} 0 1 = cc in absurd (omega arith)
+some_there (suc n) e = omega arith
+
 -- ---- behind a prefix
-pub opcode_empty : (off p : ℕ) (s : List ℕ) → length s ≤ 0 → More ≡ decoded_opcode off p s
+pub opcode_empty : (off p : ℕ) (s : List ℕ) → length s ≤ 0 → Err NotComplete ≡ decoded_opcode off p s
 unfolding decoded_opcode
 opcode_empty off p [] h = refl
 opcode_empty off p (c ∷ t) h = absurd (omega arith)
 
-pub opcode_unused : (off p n : ℕ) (s : List ℕ) → 0 < length s → n ≡ get_or rows (get_or s 0 0) 0 → n ≡ 0 → Nothing ≡ decoded_opcode off p s
+pub opcode_unused : (off p n : ℕ) (s : List ℕ) → 0 < length s → n ≡ get_or rows (get_or s 0 0) 0 → n ≡ 0 → Err NotAnInstruction ≡ decoded_opcode off p s
 unfolding decoded_opcode
 opcode_unused off p n [] h e z = absurd (omega arith)
 opcode_unused off p n (c ∷ t) h e z = rw (eq-eqb (get_or rows c 0) 0 (sym e ∙ z)) refl
@@ -173,19 +177,19 @@ pub record Opened (p : ℕ) (s : List ℕ) (n : ℕ) (f : Shape) (b : Bool) : Ty
   pub follows : b ≡ may_follow p f
 
 module _ (off p n : ℕ) (f : Shape) (b : Bool) where
-  pub opcode_nothing : (s : List ℕ) → 0 < length s → Opened p s n f b → b ≡ false → Nothing ≡ decoded_opcode off p s
+  pub opcode_nothing : (s : List ℕ) → 0 < length s → Opened p s n f b → b ≡ false → Err NotAnInstruction ≡ decoded_opcode off p s
   unfolding decoded_opcode
   opcode_nothing [] h o e = absurd (omega arith)
   opcode_nothing (c ∷ t) h o e = rw (← o.row, ne_eqb n 0 o.used, ← o.shape, sym o.follows ∙ e) refl
 
   -- k: whether there is a second byte; m: the bytes of opcode and second byte
   module _ (k : Bool) (ek : k ≡ has_second (extension_at f.class)) (m : ℕ) (em : m ≡ pick k 2 1) (e : b ≡ true) where
-    pub opcode_more : (s : List ℕ) → 0 < length s → Opened p s n f b → length s < m → More ≡ decoded_opcode off p s
+    pub opcode_more : (s : List ℕ) → 0 < length s → Opened p s n f b → length s < m → Err NotComplete ≡ decoded_opcode off p s
     unfolding decoded_opcode
     opcode_more [] h o l = absurd (omega arith)
     opcode_more (c ∷ t) h o l = go k refl t l
       where
-        go : (j : Bool) → k ≡ j → (t : List ℕ) → length (c ∷ t) < m → More ≡ decoded_opcode off p (c ∷ t)
+        go : (j : Bool) → k ≡ j → (t : List ℕ) → length (c ∷ t) < m → Err NotComplete ≡ decoded_opcode off p (c ∷ t)
         go true q [] l = rw (← o.row, ne_eqb n 0 o.used, ← o.shape, sym o.follows ∙ e, sym ek ∙ q) refl
         go true q (x ∷ t) l = let d : m ≡ 2 = rw q at em in absurd (omega arith)
         go false q t l = let d : m ≡ 1 = rw q at em in absurd (omega arith)
@@ -209,7 +213,7 @@ module _ (off p n : ℕ) (f : Shape) (b : Bool) where
             rw (← o.row, ne_eqb n 0 o.used, ← o.shape, sym o.follows ∙ e, sym ek ∙ q) (rw (d, eg, w, ← o.shape, rest 1 (c ∷ t)) at z)
 
 -- ---- from the front
-pub read_empty : (off : ℕ) (s : List ℕ) → length s ≤ 0 → More ≡ decoded_plain off s
+pub read_empty : (off : ℕ) (s : List ℕ) → length s ≤ 0 → Err NotComplete ≡ decoded_plain off s
 unfolding decoded_plain read_plain
 read_empty off [] h = refl
 read_empty off (c ∷ t) h = absurd (omega arith)
@@ -268,9 +272,9 @@ both_second true b e = e
 both_second false b e = let z : ◌≡◌ {A = ℕ} 0 1 = cc in absurd (omega arith)
 
 -- the table's operation of a string operation's byte, by a computed test
-abbrev is_some : OptionOperation → Operation → Bool
-is_some D.None op = false
-is_some (D.Some o) op = same_operation o op
+abbrev is_some : Option Operation → Operation → Bool
+is_some None op = false
+is_some (Some o) op = same_operation o op
 
 abbrev found : Form → Bool
 found f = pick (is_string f.operation) (is_some (found_of plain f.opcode 0) f.operation) true
@@ -279,12 +283,12 @@ all_found : T (each_of found forms)
 unfolding forms operations is_string number_of
 all_found = tt
 
-some_is : (o : OptionOperation) (op : Operation) → T (is_some o op) → o ≡ D.Some op
-some_is D.None op t = absurd t
-some_is (D.Some o) op t = ap D.Some (operation_eq o op t)
+some_is : (o : Option Operation) (op : Operation) → T (is_some o op) → o ≡ Some op
+some_is None op t = absurd t
+some_is (Some o) op t = ap Some (operation_eq o op t)
 
-repeat_as : (off b c : ℕ) (s : List ℕ) (op : Operation) → repeats (b ∷ c ∷ s) ≡ true → read_plain off (c ∷ s) ≡ R.Whole (bare op) 1 → prefix c ≡ false
-    → starting_with c ≡ single c op ∷ [] → found_of plain c 0 ≡ D.Some op → decoded_repeat b c ≡ decoded off (b ∷ c ∷ s)
+repeat_as : (off b c : ℕ) (s : List ℕ) (op : Operation) → repeats (b ∷ c ∷ s) ≡ true → read_plain off (c ∷ s) ≡ Ok (bare op, 1) → prefix c ≡ false
+    → starting_with c ≡ single c op ∷ [] → found_of plain c 0 ≡ Some op → decoded_repeat b c ≡ decoded off (b ∷ c ∷ s)
 unfolding decoded reads
 repeat_as off b c s op e r p f o = rw (o, e, r, p, f) refl
 
@@ -295,8 +299,8 @@ repeat_decoded off b c s e =
     go r.c r.op (cc r.in_order) r.reads_it r.no_prefix r.one_form
     (some_is (found_of plain r.c 0) r.op (rw r.op_is_string at (each_at found forms all_found r.listed)))
   where
-    go : (d : ℕ) (op : Operation) → d ≡ c → read_plain off (c ∷ s) ≡ R.Whole (bare op) 1 → prefix d ≡ false → starting_with d ≡ single d op ∷ []
-        → found_of plain d 0 ≡ D.Some op → decoded_repeat b c ≡ decoded off (b ∷ c ∷ s)
+    go : (d : ℕ) (op : Operation) → d ≡ c → read_plain off (c ∷ s) ≡ Ok (bare op, 1) → prefix d ≡ false → starting_with d ≡ single d op ∷ []
+        → found_of plain d 0 ≡ Some op → decoded_repeat b c ≡ decoded off (b ∷ c ∷ s)
     go d op z r p f o = repeat_as off b c s op e r (rw z at p) (rw z at f) (rw z at o)
 
 -- of two bytes or more
@@ -317,29 +321,18 @@ string_behind s e = both_second (is_repeat (get_or s 0 0)) _ (sym (two_repeat s 
 
 -- ---- without the form
 module _ (off : ℕ) (s : List ℕ) where
-  pub whole_back : (m : Instruction) (f : FormName) (n : ℕ) → decoded off s ≡ Whole m f n → R.Whole m n ≡ reads off s
+  pub instruction_back : (r : Reading) → decoded off s ≡ Ok r → Ok (r.instruction, r.length) ≡ reads off s
   unfolding decoded
-  whole_back m f n e = go (reads off s) e
+  instruction_back r e = go (reads off s) e
     where
-      go : (r : Read) → with_form r (form_of s) ≡ Whole m f n → R.Whole m n ≡ r
-      go (R.Whole k j) e = cc
-      go R.Nothing e = cc
-      go R.More e = cc
+      go : (it : Read) → with_form it (form_of s) ≡ Ok r → Ok (r.instruction, r.length) ≡ it
+      go (Ok (k, j)) e = let h : reading k (form_of s) j ≡ r = cc in rw (← h) refl
+      go (Err why) e = cc
 
-  pub nothing_back : decoded off s ≡ Nothing → R.Nothing ≡ reads off s
+  pub refusal_back : (why : ReadError) → decoded off s ≡ Err why → Err why ≡ reads off s
   unfolding decoded
-  nothing_back e = go (reads off s) e
+  refusal_back why e = go (reads off s) e
     where
-      go : (r : Read) → with_form r (form_of s) ≡ Nothing → R.Nothing ≡ r
-      go (R.Whole k j) e = cc
-      go R.Nothing e = refl
-      go R.More e = cc
-
-  pub more_back : decoded off s ≡ More → R.More ≡ reads off s
-  unfolding decoded
-  more_back e = go (reads off s) e
-    where
-      go : (r : Read) → with_form r (form_of s) ≡ More → R.More ≡ r
-      go (R.Whole k j) e = cc
-      go R.Nothing e = cc
-      go R.More e = refl
+      go : (it : Read) → with_form it (form_of s) ≡ Err why → Err why ≡ it
+      go (Ok (k, j)) e = cc
+      go (Err other) e = cc

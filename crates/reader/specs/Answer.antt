@@ -1,17 +1,14 @@
 -- The reader's answer: what the forms read, with the form that read it, and document 01's number of a refusal.
 -- Definitions only.
-use Rattle.std.specs.Prelude.{ℕ, List, [], ◌∷◌, get_or}
+use Rattle.std.specs.Prelude.{ℕ, List, [], ◌∷◌, get_or, Option, Some, None, Result, Ok, Err}
 use Rattle.mrc_compiler.specs.Choose.{pick}
 use Rattle.x86_forms.specs.declared.FormName.{FormName}
-use Rattle.x86.specs.declared.Read.{Read}
-use Rattle.x86.specs.declared.Read.TheVariants as R
+use Rattle.x86.specs.declared.Instruction.{Instruction}
+use Rattle.x86.specs.declared.ReadError.{ReadError}
 use Rattle.x86.specs.Forms.{Form}
 use Rattle.read_table.specs.Rows.{name_of, no_form}
-use Rattle.x86.specs.Reading.{some, starting_with, fitting, has_second, prefix, repeats, reads}
-use Rattle.reader.specs.declared.Decoded.{Decoded}
-use Rattle.reader.specs.declared.Decoded.TheVariants.{Whole, Nothing, More}
-use Rattle.reader.specs.declared.Refusal.{Refusal}
-use Rattle.reader.specs.declared.Refusal.TheVariants as N
+use Rattle.x86.specs.Reading.{Read, refusal_number, some, starting_with, fitting, has_second, prefix, repeats, reads}
+use Rattle.reader.specs.declared.Reading.{Reading}
 
 abbrev pub first_of : List Form → FormName
 first_of [] = no_form
@@ -35,17 +32,22 @@ abbrev pub form_of : List ℕ → FormName
 form_of [] = no_form
 form_of (b ∷ s) = pick (repeats (b ∷ s)) (form_plain s) (form_plain (b ∷ s))
 
+abbrev pub reading : Instruction → FormName → ℕ → Reading
+reading m f n = record { instruction = m; form = f; length = n }
+
+-- an instruction with its form and length, or why the bytes are none
+abbrev pub Decoded : Type 0
+Decoded = Result Reading ReadError
+
 abbrev pub with_form : Read → FormName → Decoded
-with_form (R.Whole m n) f = Whole m f n
-with_form R.Nothing f = Nothing
-with_form R.More f = More
+with_form (Ok (m, n)) f = Ok (reading m f n)
+with_form (Err e) f = Err e
 
 -- what stands at the front of some bytes
 unfoldable pub decoded : ℕ → List ℕ → Decoded
 decoded off s = with_form (reads off s) (form_of s)
 
 -- the refusal's number (REFERENCE 6); none for an instruction
-abbrev pub refusal_of : Decoded → Refusal
-refusal_of (Whole m f n) = N.None
-refusal_of Nothing = N.Is 10
-refusal_of More = N.Is 11
+abbrev pub refusal_of : Decoded → Option ℕ
+refusal_of (Ok r) = None
+refusal_of (Err e) = Some (refusal_number e)

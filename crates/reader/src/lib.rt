@@ -3,7 +3,6 @@
 
 ghost use Rattle.std.specs.Prelude.{◌≡◌, ◌+◌, ◌≤◌, ◌<◌, eqb, length, get_or, drop, true};
 ghost use Rattle.mrc_compiler.specs.declared.operations.Operation.TheVariants.{XCHG, TEST};
-ghost use Rattle.mrc_compiler.specs.declared.operations.OptionOperation.TheVariants.{Some};
 ghost use Rattle.mrc_compiler.specs.Choose.{pick, both, either, by_size};
 ghost use Rattle.mrc_compiler.specs.Operations.{same_operation, is_string};
 ghost use Rattle.x86.specs.Instructions.{memory_first, canonical};
@@ -14,67 +13,49 @@ ghost use Rattle.reader.specs.Answer.{with_form, decoded, refusal_of};
 ghost use Rattle.reader.specs.ByRow.{may_follow, decoded_shape, shape_with, decoded_opcode, decoded_plain, decoded_repeat};
 
 use mrc_compiler::encoder::OperandSize;
-use mrc_compiler::operations::{Operation, OptionOperation};
-use x86::{Instruction, Operand, Read};
+use mrc_compiler::operations::Operation;
+use x86::{Instruction, Operand, ReadError};
 use x86_forms::{About, Class, Extension, FormName, Place, Shape, Slot};
 
-// What stands at the front of some bytes.
-#[derive(Clone, Copy)]
-pub enum Decoded {
-    // An instruction, the form by which the bytes read, and its length.
-    Whole(Instruction, FormName, usize),
+// An instruction that stands at the front of some bytes.
+#[derive(Clone, Copy, Debug, PartialEq, Eq)]
+pub struct Reading {
+    pub instruction: Instruction,
 
-    // Refusal 10: no instruction begins so.
-    Nothing,
-
-    // Refusal 11: an instruction that is not complete yet.
-    More,
+    // The form by which the bytes read.
+    pub form: FormName,
+    pub length: usize,
 }
 
-// Document 01's number of a refusal.
-#[derive(Clone, Copy)]
-pub enum Refusal {
-    None,
-    Is(u8),
+// What stands before the displacement: the segment prefix (0: none), the opcode, and the second byte (0 where there is none).
+#[derive(Clone, Copy, Debug, PartialEq, Eq)]
+struct Head {
+    prefix: u8,
+    opcode: u8,
+    second: u8,
 }
 
 // May a row of this shape follow the prefix (0: none)?
 fn may_follow(prefix: u8, shape: Shape) -> bool
     ensures { result ≡ may_follow prefix shape }
 {
-    let first = shape.first;
-    let second = shape.second;
-    if prefix == 0 {
-        return true;
-    }
-    let a = first.about();
-    let b = second.about();
-    let p = a.place;
-    let q = b.place;
-    if read_slots::may_name_memory(p) {
-        return true;
-    }
-    read_slots::may_name_memory(q)
+    prefix == 0
+        || read_slots::may_name_memory(shape.first.about().place)
+        || read_slots::may_name_memory(shape.second.about().place)
 }
 
 // May the prefix stand before slots with these places, with second byte x?
 fn may_stand(prefix: u8, first: Place, second: Place, x: u8) -> bool
     ensures { result ≡ either (eqb prefix 0) (either (in_memory first x) (in_memory second x)) }
 {
-    if prefix == 0 {
-        return true;
-    }
-    if read_slots::in_memory(first, x) {
-        return true;
-    }
-    read_slots::in_memory(second, x)
+    prefix == 0 || read_slots::in_memory(first, x) || read_slots::in_memory(second, x)
 }
 
 // The bytes of opcode and second byte.
-fn opcode_length(second: bool) -> usize
-    ensures { result ≡ pick second 2 1 }
+fn opcode_length(class: Class) -> usize
+    ensures { result ≡ pick (has_second (extension_at class)) 2 1 }
 {
-    if second { 2 } else { 1 }
+    if read_table::has_second(class) { 2 } else { 1 }
 }
 
 // Prefix, opcode and second byte.
@@ -82,7 +63,7 @@ fn head_length(prefix: u8, class: Class) -> usize
     ensures value { result ≡ pick (eqb prefix 0) 0 1 + pick (has_second (extension_at class)) 2 1 }
     ensures small { result ≤ 3 }
 {
-    let n = opcode_length(read_table::has_second(class));
+    let n = opcode_length(class);
     if prefix == 0 { n } else { 1 + n }
 }
 
@@ -133,19 +114,33 @@ fn instruction_at(
     width: OperandSize,
     first: Slot,
     second: Slot,
-    prefix: u8,
-    c: u8,
-    x: u8,
+    head: Head,
     next: u32,
     memory: usize,
     t: &[u8],
 ) -> Instruction
-    requires { (same_operation operation XCHG ≡ exchanges c) × (both (same_operation operation TEST) (eqb (about second).takes 0) ≡ tests_register c) × (next < 131072) × (memory ≤ length t.now) }
-    ensures { result ≡ canonical operation width (at first prefix c x next t.now (drop memory t.now)) (at second prefix c x next t.now (drop memory t.now)) }
+    requires { (same_operation operation XCHG ≡ exchanges head.opcode) × (both (same_operation operation TEST) (eqb (about second).takes 0) ≡ tests_register head.opcode) × (memory ≤ length t.now) }
+    ensures { result ≡ canonical operation width (at first head.prefix head.opcode head.second next t.now (drop memory t.now)) (at second head.prefix head.opcode head.second next t.now (drop memory t.now)) }
 {
-    let a = read_slots::operand_at(first, prefix, c, x, next, t, &t[memory..]);
-    let b = read_slots::operand_at(second, prefix, c, x, next, t, &t[memory..]);
-    settled(c, operation, width, a, b)
+    let a = read_slots::operand_at(
+        first,
+        head.prefix,
+        head.opcode,
+        head.second,
+        next,
+        t,
+        &t[memory..],
+    );
+    let b = read_slots::operand_at(
+        second,
+        head.prefix,
+        head.opcode,
+        head.second,
+        next,
+        t,
+        &t[memory..],
+    );
+    settled(head.opcode, operation, width, a, b)
 }
 
 // The bytes t behind opcode and second byte, read by a shape with an operation; a and b are what is known of its slots.
@@ -154,71 +149,69 @@ fn read_form(
     a: About,
     b: About,
     operation: Operation,
-    prefix: u8,
-    c: u8,
-    x: u8,
+    head: Head,
     offset: u16,
     t: &[u8],
-) -> Decoded
-    requires { (same_operation operation XCHG ≡ exchanges c) × (both (same_operation operation TEST) (eqb (about shape.second).takes 0) ≡ tests_register c) × (a ≡ about shape.first) × (b ≡ about shape.second) }
-    ensures { result ≡ with_form (read_form offset prefix c x t.now (shape_form shape operation)) (form_at shape.class c x) }
+) -> Result<Reading, ReadError>
+    requires { (same_operation operation XCHG ≡ exchanges head.opcode) × (both (same_operation operation TEST) (eqb (about shape.second).takes 0) ≡ tests_register head.opcode) × (a ≡ about shape.first) × (b ≡ about shape.second) }
+    ensures { result ≡ with_form (read_form offset head.prefix head.opcode head.second t.now (shape_form shape operation)) (form_at shape.class head.opcode head.second) }
 {
-    let class = shape.class;
-    let first = shape.first;
-    let second = shape.second;
-    let p = a.place;
-    let q = b.place;
-    let v = a.width;
-    let w = b.width;
-    if may_stand(prefix, p, q, x) {
-        let memory = memory_length(p, q, x);
-        let tail = memory + ((a.takes as usize) + (b.takes as usize));
-        if tail <= t.len() {
-            let n = head_length(prefix, class) + tail;
-            let next = (offset as u32) + (n as u32);
-            let width = width_of(v, w);
-            let m = instruction_at(
-                operation, width, first, second, prefix, c, x, next, memory, t,
-            );
-            let f = read_table::form_at(class, c, x);
-            return Decoded::Whole(m, f, n);
-        }
-        return Decoded::More;
+    if !may_stand(head.prefix, a.place, b.place, head.second) {
+        return Err(ReadError::NotAnInstruction);
     }
-    Decoded::Nothing
+    let memory = memory_length(a.place, b.place, head.second);
+    let tail = memory + ((a.takes as usize) + (b.takes as usize));
+    if t.len() < tail {
+        return Err(ReadError::NotComplete);
+    }
+    let length = head_length(head.prefix, shape.class) + tail;
+    let next = (offset as u32) + (length as u32);
+    let width = width_of(a.width, b.width);
+    let instruction = instruction_at(
+        operation,
+        width,
+        shape.first,
+        shape.second,
+        head,
+        next,
+        memory,
+        t,
+    );
+    Ok(Reading {
+        instruction,
+        form: read_table::form_at(shape.class, head.opcode, head.second),
+        length,
+    })
 }
 
 // The same, with the operation that first and second byte have.
-fn read_shape(shape: Shape, prefix: u8, c: u8, x: u8, offset: u16, t: &[u8]) -> Decoded
-    requires { shape ≡ shape_with (get_or rows c 0) x }
-    ensures { result ≡ decoded_shape offset prefix shape c x t.now }
+fn read_shape(shape: Shape, head: Head, offset: u16, t: &[u8]) -> Result<Reading, ReadError>
+    requires { shape ≡ shape_with (get_or rows head.opcode 0) head.second }
+    ensures { result ≡ decoded_shape offset head.prefix shape head.opcode head.second t.now }
 {
-    let class = shape.class;
-    let first = shape.first;
-    let second = shape.second;
-    let a = first.about();
-    let b = second.about();
-    let v = a.restriction;
-    let w = b.restriction;
-    match read_table::found_at(class, v, w, c, x) {
-        OptionOperation::None => Decoded::Nothing,
-        OptionOperation::Some(operation) => read_form(
-            shape, a, b, operation, prefix, c, x, offset, t,
-        ),
+    let a = shape.first.about();
+    let b = shape.second.about();
+    match read_table::found_at(
+        shape.class,
+        a.restriction,
+        b.restriction,
+        head.opcode,
+        head.second,
+    ) {
+        None => Err(ReadError::NotAnInstruction),
+        Some(operation) => read_form(shape, a, b, operation, head, offset, t),
     }
 }
 
-// The second byte, 0 where there is none.
-fn second_byte(second: bool, s: &[u8]) -> u8
-    ensures { result ≡ pick second (get_or s.now 1 0) 0 }
+// The second byte, 0 where the class has none.
+fn second_byte(class: Class, s: &[u8]) -> u8
+    ensures { result ≡ pick (has_second (extension_at class)) (get_or s.now 1 0) 0 }
 {
-    if second {
-        if 1 < s.len() {
-            return s[1];
-        }
-        return 0;
+    if read_table::has_second(class) {
+        read_slots::byte_at(s, 1)
+    } else {
+        0
     }
-    0
 }
 
 // The shape in a row with second byte x, where this is the one with 0: they differ in three rows.
@@ -227,55 +220,50 @@ fn shape_with(row: u8, shape: Shape, x: u8) -> Shape
     ensures { result ≡ shape_with row x }
 {
     if row < 45 {
-        return shape;
+        shape
+    } else {
+        read_shapes::shape_of(read_table::shape_row(row, x))
     }
-    read_shapes::shape_of(read_table::shape_row(row, x))
 }
 
 // The bytes behind the prefix (0: none).
-fn read_opcode(prefix: u8, s: &[u8], offset: u16) -> Decoded
+fn read_opcode(prefix: u8, s: &[u8], offset: u16) -> Result<Reading, ReadError>
     ensures { result ≡ decoded_opcode offset prefix s.now }
 {
-    if 0 < s.len() {
-        let c = s[0];
-        let row = read_table::row_of(c);
-        if row == 0 {
-            return Decoded::Nothing;
-        }
-        let shape = read_shapes::shape_of(read_table::shape_row(row, 0));
-        if may_follow(prefix, shape) {
-            let class = shape.class;
-            let second = read_table::has_second(class);
-            let from = opcode_length(second);
-            if from <= s.len() {
-                let x = second_byte(second, s);
-                let shape = shape_with(row, shape, x);
-                return read_shape(shape, prefix, c, x, offset, &s[from..]);
-            }
-            return Decoded::More;
-        }
-        return Decoded::Nothing;
+    if s.is_empty() {
+        return Err(ReadError::NotComplete);
     }
-    Decoded::More
+    let opcode = s[0];
+    let row = read_table::row_of(opcode);
+    if row == 0 {
+        return Err(ReadError::NotAnInstruction);
+    }
+    let shape = read_shapes::shape_of(read_table::shape_row(row, 0));
+    if !may_follow(prefix, shape) {
+        return Err(ReadError::NotAnInstruction);
+    }
+    let from = opcode_length(shape.class);
+    if s.len() < from {
+        return Err(ReadError::NotComplete); // the second byte is to come
+    }
+    let second = second_byte(shape.class, s);
+    let head = Head {
+        prefix,
+        opcode,
+        second,
+    };
+    read_shape(shape_with(row, shape, second), head, offset, &s[from..])
 }
 
-// 26, 2E, 36, 3E.
+// Is it a segment prefix?
+#[tactic(auto, unfolding(x86::specs::Reading::prefix))]
 fn is_prefix(b: u8) -> bool
     ensures { result ≡ prefix b }
 {
-    if b == 0x26 {
-        return true;
-    }
-    if b == 0x2E {
-        return true;
-    }
-    if b == 0x36 {
-        return true;
-    }
-    b == 0x3E
+    matches!(b, 0x26 | 0x2E | 0x36 | 0x3E)
 }
 
-// The prefix that a first byte is, 0 where it is none.
+// The prefix that a first byte is, 0 where it is none: so the definitions of the reading take it (read_opcode, x86, specs/Reading).
 pub fn prefix_of(b: u8) -> u8
     ensures { result ≡ pick (prefix b) b 0 }
 {
@@ -291,15 +279,14 @@ pub fn opcode_start(b: u8) -> usize
 }
 
 // The bytes read as if F2 and F3 were always instructions of their own.
-fn read_plain(bytes: &[u8], offset: u16) -> Decoded
+fn read_plain(bytes: &[u8], offset: u16) -> Result<Reading, ReadError>
     ensures { result ≡ decoded_plain offset bytes.now }
 {
-    if 0 < bytes.len() {
-        let b = bytes[0];
-        let start = opcode_start(b);
-        return read_opcode(prefix_of(b), &bytes[start..], offset);
+    if bytes.is_empty() {
+        return Err(ReadError::NotComplete);
     }
-    Decoded::More
+    let b = bytes[0];
+    read_opcode(prefix_of(b), &bytes[opcode_start(b)..], offset)
 }
 
 // A4 to A7, AA to AF.
@@ -325,10 +312,7 @@ fn repeats_string(bytes: &[u8]) -> bool
     if bytes.len() < 2 {
         return false;
     }
-    if x86::is_repeat(bytes[0]) {
-        return begins_string(bytes[1]);
-    }
-    false
+    x86::is_repeat(bytes[0]) && begins_string(bytes[1])
 }
 
 // The string operation c. Not by the table: a second caller of its search would make every read slower.
@@ -351,29 +335,29 @@ fn string_operation(c: u8) -> Operation
 }
 
 // The string operation c, which is one byte, behind its repeat.
-fn read_repeated(repeat: u8, c: u8) -> Decoded
+fn read_repeated(repeat: u8, c: u8) -> Result<Reading, ReadError>
     requires { some (λ f. is_string f.operation) (starting_with c) ≡ true }
     ensures { result ≡ decoded_repeat repeat c }
 {
     let operation = string_operation(c);
-    Decoded::Whole(
-        Instruction {
+    Ok(Reading {
+        instruction: Instruction {
             repeat,
             operation,
             width: OperandSize::Unspecified,
             first: Operand::None,
             second: Operand::None,
         },
-        FormName {
+        form: FormName {
             opcode: c,
             extension: Extension::None,
         },
-        2,
-    )
+        length: 2,
+    })
 }
 
 // What stands at the front of the bytes, with the form by which it reads; near targets are for this offset.
-pub fn read(bytes: &[u8], offset: u16) -> Decoded
+pub fn read(bytes: &[u8], offset: u16) -> Result<Reading, ReadError>
     ensures { result ≡ decoded offset bytes.now }
 {
     if repeats_string(bytes) {
@@ -383,25 +367,19 @@ pub fn read(bytes: &[u8], offset: u16) -> Decoded
 }
 
 // The same without the form.
-pub fn read_at(bytes: &[u8], offset: u16) -> Read
+pub fn read_at(bytes: &[u8], offset: u16) -> Result<(Instruction, usize), ReadError>
     ensures { result ≡ reads offset bytes.now }
 {
-    match read(bytes, offset) {
-        Decoded::Whole(m, _, n) => Read::Whole(m, n),
-        Decoded::Nothing => Read::Nothing,
-        Decoded::More => Read::More,
-    }
+    let reading = read(bytes, offset)?;
+    Ok((reading.instruction, reading.length))
 }
 
-impl Decoded {
-    // Document 01's number, where the bytes are refused.
-    pub fn refusal(self) -> Refusal
-        ensures { result ≡ refusal_of self }
-    {
-        match self {
-            Decoded::Whole(_, _, _) => Refusal::None,
-            Decoded::Nothing => Refusal::Is(10),
-            Decoded::More => Refusal::Is(11),
-        }
+// Document 01's number, where the bytes are refused.
+pub fn refusal(reading: Result<Reading, ReadError>) -> Option<u8>
+    ensures { result ≡ refusal_of reading }
+{
+    match reading {
+        Ok(_) => None,
+        Err(error) => Some(error.number()),
     }
 }

@@ -12,7 +12,7 @@ use Rattle.x86.specs.Forms.{forms}
 use Rattle.x86.specs.Reading.{starting_with, read_form, prefix, read_plain, is_repeat, repeats, reads}
 use Rattle.x86.specs.Listing.{Among}
 use Rattle.text_line.specs.Numbers.{hex_byte, digit_from, decimal}
-use Rattle.short_list.specs.declared.Written.TheVariants.{Length, TooShort}
+use Rattle.std.specs.Prelude.{Ok, Err}
 use Rattle.short_list.specs.Short.{strings, reads_whole, short_of, short_strings}
 use Rattle.short_list.specs.Text.{lines_of, count_line, short_text, written}
 use Rattle.short_list.proofs.Laws.{next, lines_append, grown}
@@ -139,8 +139,8 @@ pub record Texts : Type 0 where
   -- "FFF7", "16923"
   pub ends : (front : List ℕ) × (short_text ≡ front ++ (0x46 ∷ 0x46 ∷ 0x46 ∷ 0x37 ∷ 0x0A ∷ 0x31 ∷ 0x36 ∷ 0x39 ∷ 0x32 ∷ 0x33 ∷ 0x0A ∷ []))
   pub long : length short_text ≡ 84443
-  pub fits : written 84443 ≡ Length 84443
-  pub fits_not : written 84442 ≡ TooShort
+  pub fits : written 84443 ≡ Ok 84443
+  pub fits_not : written 84442 ≡ Err (record {})
 
 first_four : short_of 0x17 ≡ (0x06 ∷ []) ∷ (0x07 ∷ []) ∷ (0x0E ∷ []) ∷ (0x16 ∷ []) ∷ []
 unfolding short_of reads_whole reads read_plain repeats is_repeat prefix read_form starting_with forms is_string number_of

@@ -1,5 +1,6 @@
 -- The strings that are printed: none missing, nothing else, none again, in order; and what write_short leaves in the lent slice, by its contract alone.
 -- Assumes nothing.
+use Rattle.std.specs.Prelude.{Ok, Err, Result}
 use mathlib.Core.Path.{◌≡◌, refl, sym}
 use mathlib.Core.Bool.{Bool, true, false}
 use mathlib.Core.Logic.{◌⊎◌, inl, inr, ⊎_elim}
@@ -13,12 +14,10 @@ use lib.Seq.{get_or_at}
 use borrow.Author.Tests.{eqb-true, eq-eqb, lt-ltb, le-ltb, ltb-true, ltb-false}
 use Rattle.mrc_compiler.specs.Choose.{pick}
 use Rattle.x86.specs.declared.Instruction.{Instruction}
-use Rattle.x86.specs.declared.Read.{Read}
-use Rattle.x86.specs.declared.Read.TheVariants as R
-use Rattle.x86.specs.Reading.{reads}
+use Rattle.x86.specs.Reading.{Read, reads}
 use Rattle.x86.specs.Listing.{Bytes, ReadsAs, Among, here, later, First, Before}
 use Rattle.x86.proofs.Among.{at_among}
-use Rattle.short_list.specs.declared.Written.TheVariants.{Length, TooShort}
+use Rattle.text_line.specs.declared.TooShort.{TooShort}
 use Rattle.short_list.specs.Short.{string_at, strings, whole_by, reads_whole, short_of, short_strings}
 use Rattle.short_list.specs.Text.{short_text, written, slice_after}
 use Rattle.short_list.specs.Complete.{AllShort, Prints}
@@ -123,9 +122,8 @@ unfolding reads_whole
 whole_reads s = go (reads 0 s) refl
   where
     go : (r : Read) → reads 0 s ≡ r → whole_by r (length s) ≡ true → (m : Instruction) × ReadsAs 0 m s
-    go (R.Whole m n) e q = (m, rw e (rw (eqb-true n (length s) q) refl))
-    go R.Nothing e q = let z : ◌≡◌ {A = ℕ} 0 1 = cc in absurd (omega arith)
-    go R.More e q = let z : ◌≡◌ {A = ℕ} 0 1 = cc in absurd (omega arith)
+    go (Ok (m, n)) e q = (m, rw e (rw (eqb-true n (length s) q) refl))
+    go (Err why) e q = let z : ◌≡◌ {A = ℕ} 0 1 = cc in absurd (omega arith)
 
 -- ---- the first n
 in_it : (k n : ℕ) → k < n → reads_whole (string_at k) ≡ true → Among (string_at k) (short_of n)
@@ -204,21 +202,21 @@ all_short = record {
 -- ---- what write_short answers
 module _ (out : List ℕ) where
   -- where it answers a length, the slice holds the text of all short strings
-  pub prints_all : (n : ℕ) → written (length out) ≡ Length n → Prints n out (slice_after out)
+  pub prints_all : (n : ℕ) → written (length out) ≡ Ok n → Prints n out (slice_after out)
   unfolding written slice_after short_text
   prints_all n = go (leb (length short_text) (length out))
     where
-      go : (t : Bool) → pick t (Length (length short_text)) TooShort ≡ Length n → Prints n out (pick t (short_text ++ drop (length short_text) out) out)
+      go : (t : Bool) → ◌≡◌ {A = Result ℕ TooShort} (pick t (Ok (length short_text)) (Err (record {}))) (Ok n) → Prints n out (pick t (short_text ++ drop (length short_text) out) out)
       go true e =
           let q : n ≡ length short_text = cc in
           rw q (record { list = short_strings; all = all_short; long = refl; text = refl })
       go false e = let z : ◌≡◌ {A = ℕ} 0 1 = cc in absurd (omega arith)
 
   -- and else nothing has changed
-  pub too_short_leaves : written (length out) ≡ TooShort → slice_after out ≡ out
+  pub too_short_leaves : written (length out) ≡ Err (record {}) → slice_after out ≡ out
   unfolding written slice_after
   too_short_leaves = go (leb (length short_text) (length out))
     where
-      go : (t : Bool) → pick t (Length (length short_text)) TooShort ≡ TooShort → pick t (short_text ++ drop (length short_text) out) out ≡ out
+      go : (t : Bool) → ◌≡◌ {A = Result ℕ TooShort} (pick t (Ok (length short_text)) (Err (record {}))) (Err (record {})) → pick t (short_text ++ drop (length short_text) out) out ≡ out
       go true e = let z : ◌≡◌ {A = ℕ} 0 1 = cc in absurd (omega arith)
       go false e = refl

@@ -1,5 +1,6 @@
 -- The laws of the short strings: what the reader's answer says, and what one string more adds to the list and to its lines.
 -- Assumes nothing.
+use Rattle.std.specs.Prelude.{Ok, Err}
 use mathlib.Core.Path.{◌≡◌, refl, sym, ◌∙◌}
 use mathlib.Core.Bool.{Bool, true, false}
 use mathlib.Core.List.{List, [], ◌∷◌, ◌++◌, append_assoc, append-nil}
@@ -10,9 +11,7 @@ use lib.Dec.{ltb}
 use lib.ListN.{length, length-append}
 use borrow.Author.Tests.{lt-ltb, le-ltb}
 use Rattle.mrc_compiler.specs.Choose.{pick}
-use Rattle.x86.specs.declared.Read.{Read}
-use Rattle.x86.specs.declared.Read.TheVariants as R
-use Rattle.x86.specs.Reading.{reads}
+use Rattle.x86.specs.Reading.{Read, reads}
 use Rattle.x86_forms.specs.declared.FormName.{FormName}
 use Rattle.reader.specs.Answer.{with_form, form_of, decoded}
 use Rattle.text_line.specs.declared.Line.{Line}
@@ -25,9 +24,8 @@ use Rattle.short_list.specs.Steps.{whole_in}
 
 -- ---- whole by the reader's answer
 with_form_lem : (r : Read) (f : FormName) (l : ℕ) → whole_in (with_form r f) l ≡ whole_by r l
-with_form_lem (R.Whole m n) f l = refl
-with_form_lem R.Nothing f l = refl
-with_form_lem R.More f l = refl
+with_form_lem (Ok (m, n)) f l = refl
+with_form_lem (Err e) f l = refl
 
 pub whole_is : (s : List ℕ) → whole_in (decoded 0 s) (length s) ≡ reads_whole s
 unfolding decoded reads_whole

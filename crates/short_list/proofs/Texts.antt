@@ -1,5 +1,6 @@
 -- The text in the lent slice: it fits where a length is answered, and the count stands behind the lines.
 -- Assumes nothing.
+use Rattle.std.specs.Prelude.{Result, Ok, Err}
 use mathlib.Core.Path.{◌≡◌, refl}
 use mathlib.Core.Bool.{Bool, true, false}
 use mathlib.Core.List.{List, ◌++◌}
@@ -11,17 +12,17 @@ use borrow.Author.Tests.{leb-true, le-leb, lt-leb}
 use borrow.Rule.Slice.PartMut.{put_mid}
 use Rattle.base_values.proofs.Fronts.{Front, front_is, front_next, lent, lent_length}
 use Rattle.mrc_compiler.specs.Choose.{pick}
-use Rattle.short_list.specs.declared.Written.TheVariants.{Length, TooShort}
+use Rattle.text_line.specs.declared.TooShort.{TooShort}
 use Rattle.short_list.specs.Short.{short_strings}
 use Rattle.short_list.specs.Text.{lines_of, count_line, short_text, written}
 use Rattle.short_list.proofs.Laws.{count_length}
 use Rattle.short_list.proofs.Counts.{lines_are, text_is}
 
-pub written_fits : (size n : ℕ) → written size ≡ Length n → (n ≡ length short_text) × (n ≤ size)
+pub written_fits : (size n : ℕ) → written size ≡ Ok n → (n ≡ length short_text) × (n ≤ size)
 unfolding written
 written_fits size n = go (leb (length short_text) size) refl
   where
-    go : (t : Bool) → leb (length short_text) size ≡ t → pick t (Length (length short_text)) TooShort ≡ Length n → (n ≡ length short_text) × (n ≤ size)
+    go : (t : Bool) → leb (length short_text) size ≡ t → ◌≡◌ {A = Result ℕ TooShort} (pick t (Ok (length short_text)) (Err (record {}))) (Ok n) → (n ≡ length short_text) × (n ≤ size)
     go true h e =
         let q : n ≡ length short_text = cc in
         let l = leb-true (length short_text) size h in

@@ -1,10 +1,8 @@
 -- The strings of one or two bytes that read, whole, as one instruction at offset 0 (REFERENCE 13).
 -- Definitions only.
-use Rattle.std.specs.Prelude.{ℕ, zero, suc, ◌-◌, ◌/◌, ◌%◌, Bool, false, List, [], ◌∷◌, ◌++◌, eqb, ltb, length}
+use Rattle.std.specs.Prelude.{ℕ, zero, suc, ◌-◌, ◌/◌, ◌%◌, Bool, false, List, [], ◌∷◌, ◌++◌, eqb, ltb, length, Ok, Err}
 use Rattle.mrc_compiler.specs.Choose.{pick}
-use Rattle.x86.specs.declared.Read.{Read}
-use Rattle.x86.specs.declared.Read.TheVariants as R
-use Rattle.x86.specs.Reading.{reads}
+use Rattle.x86.specs.Reading.{Read, reads}
 
 -- all strings of one byte, then all of two, each by value
 abbrev pub string_at : ℕ → List ℕ
@@ -15,9 +13,8 @@ abbrev pub strings : ℕ
 strings = 65792
 
 abbrev pub whole_by : Read → ℕ → Bool
-whole_by (R.Whole m n) l = eqb n l
-whole_by R.Nothing l = false
-whole_by R.More l = false
+whole_by (Ok (m, n)) l = eqb n l
+whole_by (Err e) l = false
 
 -- does a string read, to the last byte?
 unfoldable pub reads_whole : List ℕ → Bool

@@ -1,10 +1,9 @@
 -- The text that `fsqshort` prints (REFERENCE 13), in ASCII, and the slice that is lent for it.
 -- Definitions only.
-use Rattle.std.specs.Prelude.{ℕ, List, [], ◌∷◌, ◌++◌, leb, length, drop}
+use Rattle.std.specs.Prelude.{ℕ, List, [], ◌∷◌, ◌++◌, leb, length, drop, Result, Ok, Err}
 use Rattle.mrc_compiler.specs.Choose.{pick}
 use Rattle.text_line.specs.Numbers.{line_feed, hex_bytes, decimal}
-use Rattle.short_list.specs.declared.Written.{Written}
-use Rattle.short_list.specs.declared.Written.TheVariants as W
+use Rattle.text_line.specs.declared.TooShort.{TooShort}
 use Rattle.short_list.specs.Short.{short_strings}
 
 -- ---- a line for each string, in hexadecimal, and their number
@@ -25,8 +24,8 @@ unfoldable pub short_text : List ℕ
 short_text = text_of short_strings
 
 -- ---- a slice that is lent for the text: does it hold it?
-unfoldable pub written : ℕ → Written
-written size = pick (leb (length short_text) size) (W.Length (length short_text)) W.TooShort
+unfoldable pub written : ℕ → Result ℕ TooShort
+written size = pick (leb (length short_text) size) (Ok (length short_text)) (Err (record {}))
 
 -- the text at its front, and every byte behind it as it was lent
 unfoldable pub slice_after : List ℕ → List ℕ

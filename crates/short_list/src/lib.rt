@@ -8,37 +8,29 @@ ghost use Rattle.short_list.specs.Short.{string_at, strings, reads_whole, short_
 ghost use Rattle.short_list.specs.Text.{line_of, lines_of, count_line, written, slice_after};
 ghost use Rattle.short_list.specs.Steps.{whole_in};
 
-use reader::Decoded;
-use text_line::{Line, empty_line, push, push_decimal, push_hex_byte, write_line};
+use reader::Reading;
+use text_line::{Line, TooShort, empty_line, push, push_decimal, push_hex_byte, write_line};
+use x86::ReadError;
 
-#[derive(Clone, Copy)]
-pub enum Written {
-    Length(usize),
-    TooShort,
-}
-
-fn is_whole(decoded: Decoded, length: usize) -> bool
+fn is_whole(decoded: Result<Reading, ReadError>, length: usize) -> bool
     ensures { result ≡ whole_in decoded length }
 {
     match decoded {
-        Decoded::Whole(_, _, n) => n == length,
-        Decoded::Nothing => false,
-        Decoded::More => false,
+        Ok(reading) => reading.length == length,
+        Err(_) => false,
     }
 }
 
 fn one_reads(a: u8) -> bool
     ensures { result ≡ reads_whole (a ∷ []) }
 {
-    let s = [a];
-    is_whole(reader::read(&s, 0), 1)
+    is_whole(reader::read(&[a], 0), 1)
 }
 
 fn two_read(a: u8, b: u8) -> bool
     ensures { result ≡ reads_whole (a ∷ b ∷ []) }
 {
-    let s = [a, b];
-    is_whole(reader::read(&s, 0), 2)
+    is_whole(reader::read(&[a, b], 0), 2)
 }
 
 // Does string k read, to its last byte?
@@ -61,37 +53,26 @@ fn line_of(k: usize) -> Line
 {
     if k < 256 {
         let one = push_hex_byte(empty_line(), k as u8);
-        push(one, 0x0A)
+        push(one, b'\n')
     } else {
         let n = k - 256;
         let first = push_hex_byte(empty_line(), (n / 256) as u8);
         let second = push_hex_byte(first, (n % 256) as u8);
-        push(second, 0x0A)
+        push(second, b'\n')
     }
 }
 
-// Writes the line of string k to the front of out where it is one of them, and answers how many bytes it wrote.
-fn write_string(k: usize, is_short: bool, out: &mut [u8]) -> usize
-    requires { (k < strings) × (length (pick is_short (line_of (string_at k)) []) ≤ length out.old) }
-    ensures value { result ≡ length (pick is_short (line_of (string_at k)) []) }
-    ensures out_after { out.new ≡ pick is_short (line_of (string_at k)) [] ++ drop (length (pick is_short (line_of (string_at k)) [])) out.old }
+// Writes the line of string k to the front of out, and answers how many bytes it wrote.
+fn write_string(k: usize, out: &mut [u8]) -> usize
+    requires { (k < strings) × (length (line_of (string_at k)) ≤ length out.old) }
+    ensures value { result ≡ length (line_of (string_at k)) }
+    ensures out_after { out.new ≡ line_of (string_at k) ++ drop (length (line_of (string_at k))) out.old }
 {
-    if is_short {
-        let line = line_of(k);
-        write_line(line, out)
-    } else {
-        0
-    }
-}
-
-fn one_if(t: bool) -> usize
-    ensures { result ≡ pick t 1 0 }
-{
-    if t { 1 } else { 0 }
+    write_line(line_of(k), out)
 }
 
 // How many lines were written, and where the last one ended.
-#[derive(Clone, Copy)]
+#[derive(Clone, Copy, Debug, PartialEq, Eq)]
 struct Lines {
     count: usize,
     end: usize,
@@ -104,16 +85,13 @@ fn write_lines(out: &mut [u8]) -> Lines
     ensures end_value { result.end ≡ length (lines_of short_strings) }
     ensures out_after { out.new ≡ lines_of short_strings ++ drop (length (lines_of short_strings)) out.old }
 {
-    let mut k = 0;
     let mut count = 0;
     let mut end = 0;
-    while k < 65792 {
-        let is_short = string_reads(k);
-        let part = &mut out[end..];
-        let m = write_string(k, is_short, part);
-        end = end + m;
-        count = count + one_if(is_short);
-        k += 1;
+    for k in 0..65792 {
+        if string_reads(k) {
+            end += write_string(k, &mut out[end..]);
+            count += 1;
+        }
     }
     Lines { count, end }
 }
@@ -122,25 +100,22 @@ fn count_line(n: usize) -> Line
     ensures { result ≡ appended empty_line (count_line n) }
 {
     let number = push_decimal(empty_line(), n);
-    push(number, 0x0A)
+    push(number, b'\n')
 }
 
 // The length of the text.
 pub const SHORT_LENGTH: usize = 84443;
 
 // Writes the text to the front of out, and answers its length. A shorter slice stays as it was.
-pub fn write_short(out: &mut [u8]) -> Written
+pub fn write_short(out: &mut [u8]) -> Result<usize, TooShort>
     ensures value { result ≡ written (length out.old) }
     ensures out_after { out.new ≡ slice_after out.old }
 {
     if out.len() < SHORT_LENGTH {
-        return Written::TooShort;
+        return Err(TooShort);
     }
     let lines = write_lines(out);
-    let count = lines.count;
-    let end = lines.end;
-    let last = count_line(count);
-    let part = &mut out[end..];
-    let m = write_line(last, part);
-    Written::Length(end + m)
+    let last = count_line(lines.count);
+    let m = write_line(last, &mut out[lines.end..]);
+    Ok(lines.end + m)
 }

@@ -1,6 +1,7 @@
 -- Which form read an instruction, and from which bytes.
 -- Assumes nothing.
-use mathlib.Core.Path.{◌≡◌, refl}
+use Rattle.std.specs.Prelude.{Ok, Err}
+use mathlib.Core.Path.{◌≡◌, refl, sym, ap}
 use Prim.Native.Nat.{ℕ, ◌+◌, ◌≤◌}
 use native.Mathlib.Omega.{arith}
 use mathlib.Core.Bool.{Bool, true, false}
@@ -10,24 +11,27 @@ use lib.ListN.{length}
 use borrow.Author.Tests.{leb-true}
 use Rattle.mrc_compiler.specs.Choose.{pick, either}
 use Rattle.x86.specs.declared.Instruction.{Instruction}
-use Rattle.x86.specs.declared.Read.{Read}
-use Rattle.x86.specs.declared.Read.TheVariants.{Whole, Nothing, More}
+use Rattle.x86.specs.declared.ReadError.TheVariants.{NotAnInstruction, NotComplete}
 use Rattle.x86.specs.Forms.{Form, forms}
-use Rattle.x86.specs.Reading.{has_opcode, fits, some, starting_with, fitting, has_second, head_length, tail_length, names_memory, may_name_memory, instruction_of, read_form, read_first, read_second, read_opcode, prefix, read_plain}
+use Rattle.x86.specs.Reading.{Read, has_opcode, fits, some, starting_with, fitting, has_second, head_length, tail_length, names_memory, may_name_memory, instruction_of, read_form, read_first, read_second, read_opcode, prefix, read_plain}
 use Rattle.x86.proofs.Tests.{kept, some-false}
 
 -- the answers differ
-pub more_not_whole : {m : Instruction} {n : ℕ} → More ≡ Whole m n → ⊥
+pub more_not_whole : {m : Instruction} {n : ℕ} → ◌≡◌ {A = Read} (Err NotComplete) (Ok (m, n)) → ⊥
 more_not_whole e = let z : ◌≡◌ {A = ℕ} 0 1 = cc in omega arith
 
-pub nothing_not_whole : {m : Instruction} {n : ℕ} → Nothing ≡ Whole m n → ⊥
+pub nothing_not_whole : {m : Instruction} {n : ℕ} → ◌≡◌ {A = Read} (Err NotAnInstruction) (Ok (m, n)) → ⊥
 nothing_not_whole e = let z : ◌≡◌ {A = ℕ} 0 1 = cc in omega arith
 
-pub nothing_not_more : Nothing ≡ More → ⊥
+pub nothing_not_more : ◌≡◌ {A = Read} (Err NotAnInstruction) (Err NotComplete) → ⊥
 nothing_not_more e = let z : ◌≡◌ {A = ℕ} 0 1 = cc in omega arith
 
+-- and of two instructions that are one answer, each part is one
+pub same_parts : {m k : Instruction} {n l : ℕ} → ◌≡◌ {A = Read} (Ok (m, n)) (Ok (k, l)) → (m ≡ k) × (n ≡ l)
+same_parts e = let p : ◌≡◌ {A = Instruction × ℕ} _ _ = cc in (ap (λ (q : Instruction × ℕ). q.0) p, ap (λ (q : Instruction × ℕ). q.1) p)
+
 -- a reading that ends whole was not refused
-pub pick_whole : (b : Bool) (r s : Read) {m : Instruction} {n : ℕ} → (s ≡ Whole m n → ⊥) → pick b r s ≡ Whole m n → (b ≡ true) × (r ≡ Whole m n)
+pub pick_whole : (b : Bool) (r s : Read) {m : Instruction} {n : ℕ} → (s ≡ Ok (m, n) → ⊥) → pick b r s ≡ Ok (m, n) → (b ≡ true) × (r ≡ Ok (m, n))
 pick_whole true r s f e = (refl, e)
 pick_whole false r s f e = absurd (f e)
 
@@ -38,11 +42,11 @@ pub record ByForm (off p : ℕ) (s : List ℕ) (m : Instruction) (n : ℕ) : Typ
   pub t : List ℕ
   pub f : Form
   pub listed : Memᴰ f (starting_with c)
-  pub read : read_form off p c x t f ≡ Whole m n
+  pub read : read_form off p c x t f ≡ Ok (m, n)
   pub behind : pick (has_second f.extension) 2 1 + length t ≤ length s
 
-first_by : (off p c x : ℕ) (t : List ℕ) (fs : List Form) {m : Instruction} {n : ℕ} → read_first off p c x t fs ≡ Whole m n
-    → (f : Form) × Memᴰ f fs × (read_form off p c x t f ≡ Whole m n)
+first_by : (off p c x : ℕ) (t : List ℕ) (fs : List Form) {m : Instruction} {n : ℕ} → read_first off p c x t fs ≡ Ok (m, n)
+    → (f : Form) × Memᴰ f fs × (read_form off p c x t f ≡ Ok (m, n))
 first_by off p c x t [] e = absurd (nothing_not_whole e)
 first_by off p c x t (f ∷ fs) e = (f, Memᴰ.head refl, e)
 
@@ -50,7 +54,7 @@ at_most_two : (b : Bool) → pick b 2 1 ≤ 2
 at_most_two true = omega arith
 at_most_two false = omega arith
 
-second_by : (off p c : ℕ) (t : List ℕ) {m : Instruction} {n : ℕ} → read_second off p c (starting_with c) t ≡ Whole m n → ByForm off p (c ∷ t) m n
+second_by : (off p c : ℕ) (t : List ℕ) {m : Instruction} {n : ℕ} → read_second off p c (starting_with c) t ≡ Ok (m, n) → ByForm off p (c ∷ t) m n
 second_by off p c [] e = absurd (more_not_whole e)
 second_by off p c (x ∷ t) e =
     let (f, m, r) = first_by off p c x t (fitting x (starting_with c)) e in
@@ -62,15 +66,15 @@ unfolding starting_with
 in_forms c m = kept (has_opcode c) forms m
 
 -- what is read whole behind a prefix was read by some form
-pub opcode_by : (off p : ℕ) (s : List ℕ) {m : Instruction} {n : ℕ} → read_opcode off p s ≡ Whole m n → ByForm off p s m n
+pub opcode_by : (off p : ℕ) (s : List ℕ) {m : Instruction} {n : ℕ} → read_opcode off p s ≡ Ok (m, n) → ByForm off p s m n
 opcode_by off p [] e = absurd (more_not_whole e)
 opcode_by off p (c ∷ t) {m} {n} e =
-    go (some (λ f. has_second f.extension) fs) refl (pick_whole (some (λ f. either (eqb p 0) (may_name_memory f)) fs) _ Nothing nothing_not_whole e).1
+    go (some (λ f. has_second f.extension) fs) refl (pick_whole (some (λ f. either (eqb p 0) (may_name_memory f)) fs) _ (Err NotAnInstruction) nothing_not_whole e).1
   where
     fs : List Form
     fs = starting_with c
 
-    go : (b : Bool) → some (λ f. has_second f.extension) fs ≡ b → pick b (read_second off p c fs t) (read_first off p c 0 t fs) ≡ Whole m n
+    go : (b : Bool) → some (λ f. has_second f.extension) fs ≡ b → pick b (read_second off p c fs t) (read_first off p c 0 t fs) ≡ Ok (m, n)
         → ByForm off p (c ∷ t) m n
     go true q e = second_by off p c t e
     go false q e =
@@ -79,21 +83,21 @@ opcode_by off p (c ∷ t) {m} {n} e =
         record { c = c; x = 0; t = t; f = f; listed = m; read = r; behind = rw z (omega arith) }
 
 -- a form reads its head and its tail, and the tail is there
-pub form_length : (off p c x : ℕ) (t : List ℕ) (f : Form) {m : Instruction} {n : ℕ} → read_form off p c x t f ≡ Whole m n
+pub form_length : (off p c x : ℕ) (t : List ℕ) (f : Form) {m : Instruction} {n : ℕ} → read_form off p c x t f ≡ Ok (m, n)
     → (n ≡ head_length p f + tail_length f x) × (tail_length f x ≤ length t)
 unfolding read_form
 form_length off p c x t f e =
-    let a = (pick_whole (either (eqb p 0) (names_memory f x)) _ Nothing nothing_not_whole e).1 in
-    let (l, w) = pick_whole (leb (tail_length f x) (length t)) (Whole (instruction_of off p f c x t) (head_length p f + tail_length f x)) More more_not_whole a in
-    (cc, leb-true (tail_length f x) (length t) l)
+    let a = (pick_whole (either (eqb p 0) (names_memory f x)) _ (Err NotAnInstruction) nothing_not_whole e).1 in
+    let (l, w) = pick_whole (leb (tail_length f x) (length t)) (Ok (instruction_of off p f c x t, head_length p f + tail_length f x)) (Err NotComplete) more_not_whole a in
+    (sym (same_parts w).1, leb-true (tail_length f x) (length t) l)
 
 -- and gives its instruction
-pub form_reads : (off p c x : ℕ) (t : List ℕ) (f : Form) {m : Instruction} {n : ℕ} → read_form off p c x t f ≡ Whole m n → m ≡ instruction_of off p f c x t
+pub form_reads : (off p c x : ℕ) (t : List ℕ) (f : Form) {m : Instruction} {n : ℕ} → read_form off p c x t f ≡ Ok (m, n) → m ≡ instruction_of off p f c x t
 unfolding read_form
 form_reads off p c x t f e =
-    let a = (pick_whole (either (eqb p 0) (names_memory f x)) _ Nothing nothing_not_whole e).1 in
-    let (l, w) = pick_whole (leb (tail_length f x) (length t)) (Whole (instruction_of off p f c x t) (head_length p f + tail_length f x)) More more_not_whole a in
-    cc
+    let a = (pick_whole (either (eqb p 0) (names_memory f x)) _ (Err NotAnInstruction) nothing_not_whole e).1 in
+    let (l, w) = pick_whole (leb (tail_length f x) (length t)) (Ok (instruction_of off p f c x t, head_length p f + tail_length f x)) (Err NotComplete) more_not_whole a in
+    sym (same_parts w).0
 
 -- a prefix is at most one byte
 pub prefix_length : (p : ℕ) → pick (eqb p 0) 0 1 ≤ 1
@@ -104,12 +108,12 @@ prefix_length p = go (eqb p 0)
     go false = omega arith
 
 -- an instruction is not longer than the bytes
-pub plain_not_longer : (off : ℕ) (s : List ℕ) (m : Instruction) (n : ℕ) → read_plain off s ≡ Whole m n → n ≤ length s
+pub plain_not_longer : (off : ℕ) (s : List ℕ) (m : Instruction) (n : ℕ) → read_plain off s ≡ Ok (m, n) → n ≤ length s
 unfolding read_plain
 plain_not_longer off [] m n e = absurd (more_not_whole e)
 plain_not_longer off (b ∷ s) m n e = go (prefix b) e
   where
-    go : (q : Bool) → pick q (read_opcode off b s) (read_opcode off 0 (b ∷ s)) ≡ Whole m n → n ≤ length (b ∷ s)
+    go : (q : Bool) → pick q (read_opcode off b s) (read_opcode off 0 (b ∷ s)) ≡ Ok (m, n) → n ≤ length (b ∷ s)
     go true e =
         let r = opcode_by off b s e in
         let (k, l) = form_length off b r.c r.x r.t r.f r.read in

@@ -1,5 +1,6 @@
 -- Readings of document 01 and of the issue, and what counts as the same instruction, one row each.
 -- Assumes nothing.
+use Rattle.std.specs.Prelude.{Ok, Err}
 use mathlib.Core.Path.{◌≡◌, refl, ap}
 use mathlib.Core.List.{List, [], ◌∷◌}
 use Prim.Native.Nat.{ℕ, ◌+◌, ◌%◌}
@@ -10,7 +11,7 @@ use Rattle.mrc_compiler.specs.declared.operations.Operation.TheVariants as Op
 use Rattle.mrc_compiler.specs.Operations.{number_of, is_string}
 use Rattle.x86.specs.declared.Operand.TheVariants as O
 use Rattle.x86.specs.declared.Instruction.{Instruction}
-use Rattle.x86.specs.declared.Read.TheVariants.{Whole, Nothing, More}
+use Rattle.x86.specs.declared.ReadError.TheVariants.{NotAnInstruction, NotComplete}
 use Rattle.x86.specs.Instructions.{instruction, canonical, repeated}
 use Rattle.x86.specs.Forms.{forms}
 use Rattle.x86.specs.Reading.{read_form, starting_with, prefix, read_plain, is_repeat, repeats, reads}
@@ -19,109 +20,109 @@ use Rattle.x86.specs.Listing.{ReadsAs}
 -- each row at every offset, but where it gives one
 pub record Readings (off : ℕ) : Type 0 where
   -- P: the proved cases of document 01
-  pub no_bytes : reads off [] ≡ More
-  pub prefix_before_register : reads off (0x26 ∷ 0x8B ∷ 0xC0 ∷ []) ≡ Nothing
-  pub mov_ax : reads off (0xB8 ∷ 0x34 ∷ 0x12 ∷ []) ≡ Whole (instruction Op.MOV S.Word (O.Register 0) (O.Immediate 0x1234)) 3
-  pub aam : reads off (0xD4 ∷ 0x0A ∷ []) ≡ Whole (instruction Op.AAM S.Unspecified O.None O.None) 2
-  pub test_al : reads off (0xA8 ∷ 0x05 ∷ []) ≡ Whole (instruction Op.TEST S.Byte (O.Register 0) (O.Immediate 5)) 2
-  pub add_ax : reads off (0x83 ∷ 0xC0 ∷ 0x05 ∷ []) ≡ Whole (instruction Op.ADD S.Word (O.Register 0) (O.Immediate 5)) 3
-  pub add_bx_memory : reads off (0x83 ∷ 0x07 ∷ 0x05 ∷ []) ≡ Whole (instruction Op.ADD S.Word (O.Memory 7 0 G.DS) (O.Immediate 5)) 3
-  pub xchg_cl_al : reads off (0x86 ∷ 0xC8 ∷ []) ≡ Whole (instruction Op.XCHG S.Byte (O.Register 0) (O.Register 1)) 2
-  pub je_forth : reads 0 (0x74 ∷ 0x7F ∷ []) ≡ Whole (instruction Op.JE S.Unspecified (O.Near 129) O.None) 2
-  pub je_back : reads 256 (0x74 ∷ 0x80 ∷ []) ≡ Whole (instruction Op.JE S.Unspecified (O.Near 130) O.None) 2
-  pub je_end : reads 65534 (0x74 ∷ 0x00 ∷ []) ≡ Whole (instruction Op.JE S.Unspecified (O.Near 0) O.None) 2
-  pub jmp_end : reads 65533 (0xE9 ∷ 0x00 ∷ 0x00 ∷ []) ≡ Whole (instruction Op.JMP S.Unspecified (O.Near 0) O.None) 3
-  pub mov_al_bp : reads off (0x8A ∷ 0x46 ∷ 0x00 ∷ []) ≡ Whole (instruction Op.MOV S.Byte (O.Register 0) (O.Memory 6 0 G.SS)) 3
+  pub no_bytes : reads off [] ≡ Err NotComplete
+  pub prefix_before_register : reads off (0x26 ∷ 0x8B ∷ 0xC0 ∷ []) ≡ Err NotAnInstruction
+  pub mov_ax : reads off (0xB8 ∷ 0x34 ∷ 0x12 ∷ []) ≡ Ok (instruction Op.MOV S.Word (O.Register 0) (O.Immediate 0x1234), 3)
+  pub aam : reads off (0xD4 ∷ 0x0A ∷ []) ≡ Ok (instruction Op.AAM S.Unspecified O.None O.None, 2)
+  pub test_al : reads off (0xA8 ∷ 0x05 ∷ []) ≡ Ok (instruction Op.TEST S.Byte (O.Register 0) (O.Immediate 5), 2)
+  pub add_ax : reads off (0x83 ∷ 0xC0 ∷ 0x05 ∷ []) ≡ Ok (instruction Op.ADD S.Word (O.Register 0) (O.Immediate 5), 3)
+  pub add_bx_memory : reads off (0x83 ∷ 0x07 ∷ 0x05 ∷ []) ≡ Ok (instruction Op.ADD S.Word (O.Memory 7 0 G.DS) (O.Immediate 5), 3)
+  pub xchg_cl_al : reads off (0x86 ∷ 0xC8 ∷ []) ≡ Ok (instruction Op.XCHG S.Byte (O.Register 0) (O.Register 1), 2)
+  pub je_forth : reads 0 (0x74 ∷ 0x7F ∷ []) ≡ Ok (instruction Op.JE S.Unspecified (O.Near 129) O.None, 2)
+  pub je_back : reads 256 (0x74 ∷ 0x80 ∷ []) ≡ Ok (instruction Op.JE S.Unspecified (O.Near 130) O.None, 2)
+  pub je_end : reads 65534 (0x74 ∷ 0x00 ∷ []) ≡ Ok (instruction Op.JE S.Unspecified (O.Near 0) O.None, 2)
+  pub jmp_end : reads 65533 (0xE9 ∷ 0x00 ∷ 0x00 ∷ []) ≡ Ok (instruction Op.JMP S.Unspecified (O.Near 0) O.None, 3)
+  pub mov_al_bp : reads off (0x8A ∷ 0x46 ∷ 0x00 ∷ []) ≡ Ok (instruction Op.MOV S.Byte (O.Register 0) (O.Memory 6 0 G.SS), 3)
   -- the forms that 000 leaves open
-  pub test_registers : reads off (0x85 ∷ 0xD8 ∷ []) ≡ Whole (instruction Op.TEST S.Word (O.Register 0) (O.Register 3)) 2
-  pub test_memory : reads off (0x84 ∷ 0x0F ∷ []) ≡ Whole (instruction Op.TEST S.Byte (O.Register 1) (O.Memory 7 0 G.DS)) 2
-  pub test_ax : reads off (0xA9 ∷ 0x05 ∷ 0x00 ∷ []) ≡ Whole (instruction Op.TEST S.Word (O.Register 0) (O.Immediate 5)) 3
-  pub test_byte : reads off (0xF6 ∷ 0xC3 ∷ 0x05 ∷ []) ≡ Whole (instruction Op.TEST S.Byte (O.Register 3) (O.Immediate 5)) 3
-  pub test_word : reads off (0xF7 ∷ 0x07 ∷ 0x34 ∷ 0x12 ∷ []) ≡ Whole (instruction Op.TEST S.Word (O.Memory 7 0 G.DS) (O.Immediate 0x1234)) 4
-  pub push_memory : reads off (0xFF ∷ 0x37 ∷ []) ≡ Whole (instruction Op.PUSH S.Word (O.Memory 7 0 G.DS) O.None) 2
-  pub pop_memory : reads off (0x8F ∷ 0x07 ∷ []) ≡ Whole (instruction Op.POP S.Word (O.Memory 7 0 G.DS) O.None) 2
-  pub ret_4 : reads off (0xC2 ∷ 0x04 ∷ 0x00 ∷ []) ≡ Whole (instruction Op.RET S.Unspecified (O.Immediate 4) O.None) 3
-  pub call_far : reads off (0xFF ∷ 0x1F ∷ []) ≡ Whole (instruction Op.CALL S.Unspecified (O.Memory 7 0 G.DS) O.None) 2
-  pub jmp_short : reads 0x100 (0xEB ∷ 0xFE ∷ []) ≡ Whole (instruction Op.JMP S.Unspecified (O.Near 0x100) O.None) 2
-  pub wait : reads off (0x9B ∷ []) ≡ Whole (instruction Op.WAIT S.Unspecified O.None O.None) 1
+  pub test_registers : reads off (0x85 ∷ 0xD8 ∷ []) ≡ Ok (instruction Op.TEST S.Word (O.Register 0) (O.Register 3), 2)
+  pub test_memory : reads off (0x84 ∷ 0x0F ∷ []) ≡ Ok (instruction Op.TEST S.Byte (O.Register 1) (O.Memory 7 0 G.DS), 2)
+  pub test_ax : reads off (0xA9 ∷ 0x05 ∷ 0x00 ∷ []) ≡ Ok (instruction Op.TEST S.Word (O.Register 0) (O.Immediate 5), 3)
+  pub test_byte : reads off (0xF6 ∷ 0xC3 ∷ 0x05 ∷ []) ≡ Ok (instruction Op.TEST S.Byte (O.Register 3) (O.Immediate 5), 3)
+  pub test_word : reads off (0xF7 ∷ 0x07 ∷ 0x34 ∷ 0x12 ∷ []) ≡ Ok (instruction Op.TEST S.Word (O.Memory 7 0 G.DS) (O.Immediate 0x1234), 4)
+  pub push_memory : reads off (0xFF ∷ 0x37 ∷ []) ≡ Ok (instruction Op.PUSH S.Word (O.Memory 7 0 G.DS) O.None, 2)
+  pub pop_memory : reads off (0x8F ∷ 0x07 ∷ []) ≡ Ok (instruction Op.POP S.Word (O.Memory 7 0 G.DS) O.None, 2)
+  pub ret_4 : reads off (0xC2 ∷ 0x04 ∷ 0x00 ∷ []) ≡ Ok (instruction Op.RET S.Unspecified (O.Immediate 4) O.None, 3)
+  pub call_far : reads off (0xFF ∷ 0x1F ∷ []) ≡ Ok (instruction Op.CALL S.Unspecified (O.Memory 7 0 G.DS) O.None, 2)
+  pub jmp_short : reads 0x100 (0xEB ∷ 0xFE ∷ []) ≡ Ok (instruction Op.JMP S.Unspecified (O.Near 0x100) O.None, 2)
+  pub wait : reads off (0x9B ∷ []) ≡ Ok (instruction Op.WAIT S.Unspecified O.None O.None, 1)
   -- what the encoder never writes
-  pub add_r_rm : reads off (0x03 ∷ 0xC3 ∷ []) ≡ Whole (instruction Op.ADD S.Word (O.Register 0) (O.Register 3)) 2
-  pub xchg : reads off (0x87 ∷ 0xC1 ∷ []) ≡ Whole (instruction Op.XCHG S.Word (O.Register 0) (O.Register 1)) 2
-  pub mov_c7 : reads off (0xC7 ∷ 0xC0 ∷ 0x34 ∷ 0x12 ∷ []) ≡ Whole (instruction Op.MOV S.Word (O.Register 0) (O.Immediate 0x1234)) 4
-  pub inc_ff : reads off (0xFF ∷ 0xC0 ∷ []) ≡ Whole (instruction Op.INC S.Word (O.Register 0) O.None) 2
-  pub mov_direct : reads off (0x8B ∷ 0x06 ∷ 0x34 ∷ 0x12 ∷ []) ≡ Whole (instruction Op.MOV S.Word (O.Register 0) (O.Memory 8 0x1234 G.DS)) 4
-  pub nop : reads off (0x90 ∷ []) ≡ Whole (instruction Op.NOP S.Unspecified O.None O.None) 1
-  pub sar_ax : reads off (0xD1 ∷ 0xF8 ∷ []) ≡ Whole (instruction Op.SAR S.Word (O.Register 0) O.One) 2
-  pub shl_cl : reads off (0xD3 ∷ 0xE3 ∷ []) ≡ Whole (instruction Op.SHL S.Word (O.Register 3) (O.Register 1)) 2
-  pub push_cs : reads off (0x0E ∷ []) ≡ Whole (instruction Op.PUSH S.Word (O.SegmentRegister 1) O.None) 1
-  pub mov_es : reads off (0x8E ∷ 0xC0 ∷ []) ≡ Whole (instruction Op.MOV S.Word (O.SegmentRegister 0) (O.Register 0)) 2
-  pub in_dx : reads off (0xEC ∷ []) ≡ Whole (instruction Op.IN S.Byte (O.Register 0) (O.Register 2)) 1
-  pub xlat_cs : reads off (0x2E ∷ 0xD7 ∷ []) ≡ Whole (instruction Op.XLATB S.Byte (O.Memory 7 0 G.CS) O.None) 2
-  pub prefix_alone : reads off (0xF3 ∷ []) ≡ Whole (instruction Op.REP S.Unspecified O.None O.None) 1  -- LOCK, REP and REPNE are instructions by themselves
-  pub behind : reads off (0x90 ∷ 0x82 ∷ 0xFF ∷ []) ≡ Whole (instruction Op.NOP S.Unspecified O.None O.None) 1  -- what stands behind is not looked at
+  pub add_r_rm : reads off (0x03 ∷ 0xC3 ∷ []) ≡ Ok (instruction Op.ADD S.Word (O.Register 0) (O.Register 3), 2)
+  pub xchg : reads off (0x87 ∷ 0xC1 ∷ []) ≡ Ok (instruction Op.XCHG S.Word (O.Register 0) (O.Register 1), 2)
+  pub mov_c7 : reads off (0xC7 ∷ 0xC0 ∷ 0x34 ∷ 0x12 ∷ []) ≡ Ok (instruction Op.MOV S.Word (O.Register 0) (O.Immediate 0x1234), 4)
+  pub inc_ff : reads off (0xFF ∷ 0xC0 ∷ []) ≡ Ok (instruction Op.INC S.Word (O.Register 0) O.None, 2)
+  pub mov_direct : reads off (0x8B ∷ 0x06 ∷ 0x34 ∷ 0x12 ∷ []) ≡ Ok (instruction Op.MOV S.Word (O.Register 0) (O.Memory 8 0x1234 G.DS), 4)
+  pub nop : reads off (0x90 ∷ []) ≡ Ok (instruction Op.NOP S.Unspecified O.None O.None, 1)
+  pub sar_ax : reads off (0xD1 ∷ 0xF8 ∷ []) ≡ Ok (instruction Op.SAR S.Word (O.Register 0) O.One, 2)
+  pub shl_cl : reads off (0xD3 ∷ 0xE3 ∷ []) ≡ Ok (instruction Op.SHL S.Word (O.Register 3) (O.Register 1), 2)
+  pub push_cs : reads off (0x0E ∷ []) ≡ Ok (instruction Op.PUSH S.Word (O.SegmentRegister 1) O.None, 1)
+  pub mov_es : reads off (0x8E ∷ 0xC0 ∷ []) ≡ Ok (instruction Op.MOV S.Word (O.SegmentRegister 0) (O.Register 0), 2)
+  pub in_dx : reads off (0xEC ∷ []) ≡ Ok (instruction Op.IN S.Byte (O.Register 0) (O.Register 2), 1)
+  pub xlat_cs : reads off (0x2E ∷ 0xD7 ∷ []) ≡ Ok (instruction Op.XLATB S.Byte (O.Memory 7 0 G.CS) O.None, 2)
+  pub prefix_alone : reads off (0xF3 ∷ []) ≡ Ok (instruction Op.REP S.Unspecified O.None O.None, 1)  -- LOCK, REP and REPNE are instructions by themselves
+  pub behind : reads off (0x90 ∷ 0x82 ∷ 0xFF ∷ []) ≡ Ok (instruction Op.NOP S.Unspecified O.None O.None, 1)  -- what stands behind is not looked at
   -- document 02, No. 11: F2 or F3 belongs to a string operation behind it, and else is an instruction of its own
-  pub rep_movsb : reads off (0xF3 ∷ 0xA4 ∷ []) ≡ Whole (repeated 0xF3 (instruction Op.MOVSB S.Unspecified O.None O.None)) 2
-  pub repne_movsb : reads off (0xF2 ∷ 0xA4 ∷ []) ≡ Whole (repeated 0xF2 (instruction Op.MOVSB S.Unspecified O.None O.None)) 2
-  pub repne_scasb : reads off (0xF2 ∷ 0xAE ∷ []) ≡ Whole (repeated 0xF2 (instruction Op.SCASB S.Unspecified O.None O.None)) 2
-  pub rep_stosw : reads off (0xF3 ∷ 0xAB ∷ []) ≡ Whole (repeated 0xF3 (instruction Op.STOSW S.Unspecified O.None O.None)) 2
-  pub rep_movsb_behind : reads off (0xF3 ∷ 0xA4 ∷ 0xA4 ∷ []) ≡ Whole (repeated 0xF3 (instruction Op.MOVSB S.Unspecified O.None O.None)) 2
-  pub movsb : reads off (0xA4 ∷ []) ≡ Whole (instruction Op.MOVSB S.Unspecified O.None O.None) 1
-  pub repne_alone : reads off (0xF2 ∷ []) ≡ Whole (instruction Op.REPNE S.Unspecified O.None O.None) 1
-  pub rep_rep : reads off (0xF3 ∷ 0xF3 ∷ 0xA4 ∷ []) ≡ Whole (instruction Op.REP S.Unspecified O.None O.None) 1
-  pub rep_prefix : reads off (0xF3 ∷ 0x26 ∷ 0xA4 ∷ []) ≡ Whole (instruction Op.REP S.Unspecified O.None O.None) 1
-  pub rep_nop : reads off (0xF3 ∷ 0x90 ∷ []) ≡ Whole (instruction Op.REP S.Unspecified O.None O.None) 1
-  pub rep_unread : reads off (0xF3 ∷ 0x82 ∷ []) ≡ Whole (instruction Op.REP S.Unspecified O.None O.None) 1
-  pub rep_test : reads off (0xF3 ∷ 0xA8 ∷ 0x05 ∷ []) ≡ Whole (instruction Op.REP S.Unspecified O.None O.None) 1
-  pub lock_movsb : reads off (0xF0 ∷ 0xA4 ∷ []) ≡ Whole (instruction Op.LOCK S.Unspecified O.None O.None) 1
-  pub prefix_rep : reads off (0x26 ∷ 0xF3 ∷ 0xA4 ∷ []) ≡ Nothing
-  pub prefix_movsb : reads off (0x26 ∷ 0xA4 ∷ []) ≡ Nothing
+  pub rep_movsb : reads off (0xF3 ∷ 0xA4 ∷ []) ≡ Ok (repeated 0xF3 (instruction Op.MOVSB S.Unspecified O.None O.None), 2)
+  pub repne_movsb : reads off (0xF2 ∷ 0xA4 ∷ []) ≡ Ok (repeated 0xF2 (instruction Op.MOVSB S.Unspecified O.None O.None), 2)
+  pub repne_scasb : reads off (0xF2 ∷ 0xAE ∷ []) ≡ Ok (repeated 0xF2 (instruction Op.SCASB S.Unspecified O.None O.None), 2)
+  pub rep_stosw : reads off (0xF3 ∷ 0xAB ∷ []) ≡ Ok (repeated 0xF3 (instruction Op.STOSW S.Unspecified O.None O.None), 2)
+  pub rep_movsb_behind : reads off (0xF3 ∷ 0xA4 ∷ 0xA4 ∷ []) ≡ Ok (repeated 0xF3 (instruction Op.MOVSB S.Unspecified O.None O.None), 2)
+  pub movsb : reads off (0xA4 ∷ []) ≡ Ok (instruction Op.MOVSB S.Unspecified O.None O.None, 1)
+  pub repne_alone : reads off (0xF2 ∷ []) ≡ Ok (instruction Op.REPNE S.Unspecified O.None O.None, 1)
+  pub rep_rep : reads off (0xF3 ∷ 0xF3 ∷ 0xA4 ∷ []) ≡ Ok (instruction Op.REP S.Unspecified O.None O.None, 1)
+  pub rep_prefix : reads off (0xF3 ∷ 0x26 ∷ 0xA4 ∷ []) ≡ Ok (instruction Op.REP S.Unspecified O.None O.None, 1)
+  pub rep_nop : reads off (0xF3 ∷ 0x90 ∷ []) ≡ Ok (instruction Op.REP S.Unspecified O.None O.None, 1)
+  pub rep_unread : reads off (0xF3 ∷ 0x82 ∷ []) ≡ Ok (instruction Op.REP S.Unspecified O.None O.None, 1)
+  pub rep_test : reads off (0xF3 ∷ 0xA8 ∷ 0x05 ∷ []) ≡ Ok (instruction Op.REP S.Unspecified O.None O.None, 1)
+  pub lock_movsb : reads off (0xF0 ∷ 0xA4 ∷ []) ≡ Ok (instruction Op.LOCK S.Unspecified O.None O.None, 1)
+  pub prefix_rep : reads off (0x26 ∷ 0xF3 ∷ 0xA4 ∷ []) ≡ Err NotAnInstruction
+  pub prefix_movsb : reads off (0x26 ∷ 0xA4 ∷ []) ≡ Err NotAnInstruction
   -- refusal 10
-  pub opcode_82 : reads off (0x82 ∷ []) ≡ Nothing
-  pub shift_6 : reads off (0xD0 ∷ 0xF0 ∷ []) ≡ Nothing
-  pub f6_1 : reads off (0xF6 ∷ 0xC8 ∷ []) ≡ Nothing
-  pub pop_8f_1 : reads off (0x8F ∷ 0xC8 ∷ []) ≡ Nothing
-  pub jmp_ff_5 : reads off (0xFF ∷ 0x2F ∷ []) ≡ Nothing
-  pub call_far_register : reads off (0xFF ∷ 0xD8 ∷ []) ≡ Nothing
-  pub prefix_call_far_register : reads off (0x26 ∷ 0xFF ∷ 0xD8 ∷ []) ≡ Nothing
-  pub f7_1 : reads off (0xF7 ∷ 0xC8 ∷ []) ≡ Nothing
-  pub mov_from_segment_4 : reads off (0x8C ∷ 0xE0 ∷ []) ≡ Nothing
-  pub mov_to_cs : reads off (0x8E ∷ 0xC8 ∷ []) ≡ Nothing
-  pub mov_to_segment_5 : reads off (0x8E ∷ 0xE8 ∷ []) ≡ Nothing
-  pub pop_cs : reads off (0x0F ∷ []) ≡ Nothing
-  pub lea_register : reads off (0x8D ∷ 0xC0 ∷ []) ≡ Nothing
-  pub les_register : reads off (0xC4 ∷ 0xC0 ∷ []) ≡ Nothing
-  pub lds_register : reads off (0xC5 ∷ 0xC0 ∷ []) ≡ Nothing
-  pub aam_0b : reads off (0xD4 ∷ 0x0B ∷ []) ≡ Nothing
-  pub aad_a0 : reads off (0xD5 ∷ 0xA0 ∷ []) ≡ Nothing
-  pub fe_2 : reads off (0xFE ∷ 0xD0 ∷ []) ≡ Nothing
-  pub c6_1 : reads off (0xC6 ∷ 0xC8 ∷ []) ≡ Nothing
-  pub two_prefixes : reads off (0x26 ∷ 0x26 ∷ 0x8B ∷ 0x07 ∷ []) ≡ Nothing
-  pub prefix_prefix : reads off (0x26 ∷ 0x26 ∷ []) ≡ Nothing
-  pub prefix_before_immediate : reads off (0x26 ∷ 0x05 ∷ []) ≡ Nothing
-  pub prefix_before_push : reads off (0x2E ∷ 0x50 ∷ []) ≡ Nothing
-  pub prefix_before_aam : reads off (0x36 ∷ 0xD4 ∷ []) ≡ Nothing
+  pub opcode_82 : reads off (0x82 ∷ []) ≡ Err NotAnInstruction
+  pub shift_6 : reads off (0xD0 ∷ 0xF0 ∷ []) ≡ Err NotAnInstruction
+  pub f6_1 : reads off (0xF6 ∷ 0xC8 ∷ []) ≡ Err NotAnInstruction
+  pub pop_8f_1 : reads off (0x8F ∷ 0xC8 ∷ []) ≡ Err NotAnInstruction
+  pub jmp_ff_5 : reads off (0xFF ∷ 0x2F ∷ []) ≡ Err NotAnInstruction
+  pub call_far_register : reads off (0xFF ∷ 0xD8 ∷ []) ≡ Err NotAnInstruction
+  pub prefix_call_far_register : reads off (0x26 ∷ 0xFF ∷ 0xD8 ∷ []) ≡ Err NotAnInstruction
+  pub f7_1 : reads off (0xF7 ∷ 0xC8 ∷ []) ≡ Err NotAnInstruction
+  pub mov_from_segment_4 : reads off (0x8C ∷ 0xE0 ∷ []) ≡ Err NotAnInstruction
+  pub mov_to_cs : reads off (0x8E ∷ 0xC8 ∷ []) ≡ Err NotAnInstruction
+  pub mov_to_segment_5 : reads off (0x8E ∷ 0xE8 ∷ []) ≡ Err NotAnInstruction
+  pub pop_cs : reads off (0x0F ∷ []) ≡ Err NotAnInstruction
+  pub lea_register : reads off (0x8D ∷ 0xC0 ∷ []) ≡ Err NotAnInstruction
+  pub les_register : reads off (0xC4 ∷ 0xC0 ∷ []) ≡ Err NotAnInstruction
+  pub lds_register : reads off (0xC5 ∷ 0xC0 ∷ []) ≡ Err NotAnInstruction
+  pub aam_0b : reads off (0xD4 ∷ 0x0B ∷ []) ≡ Err NotAnInstruction
+  pub aad_a0 : reads off (0xD5 ∷ 0xA0 ∷ []) ≡ Err NotAnInstruction
+  pub fe_2 : reads off (0xFE ∷ 0xD0 ∷ []) ≡ Err NotAnInstruction
+  pub c6_1 : reads off (0xC6 ∷ 0xC8 ∷ []) ≡ Err NotAnInstruction
+  pub two_prefixes : reads off (0x26 ∷ 0x26 ∷ 0x8B ∷ 0x07 ∷ []) ≡ Err NotAnInstruction
+  pub prefix_prefix : reads off (0x26 ∷ 0x26 ∷ []) ≡ Err NotAnInstruction
+  pub prefix_before_immediate : reads off (0x26 ∷ 0x05 ∷ []) ≡ Err NotAnInstruction
+  pub prefix_before_push : reads off (0x2E ∷ 0x50 ∷ []) ≡ Err NotAnInstruction
+  pub prefix_before_aam : reads off (0x36 ∷ 0xD4 ∷ []) ≡ Err NotAnInstruction
   -- refusal 11
-  pub test_f6_short : reads off (0xF6 ∷ 0xC0 ∷ []) ≡ More
-  pub ret_short : reads off (0xC2 ∷ 0x04 ∷ []) ≡ More
-  pub prefix_only : reads off (0x26 ∷ []) ≡ More
-  pub mov_only : reads off (0x8B ∷ []) ≡ More
-  pub mov_displacement : reads off (0x8B ∷ 0x86 ∷ 0x00 ∷ []) ≡ More
-  pub aam_only : reads off (0xD4 ∷ []) ≡ More
-  pub prefix_mov : reads off (0x26 ∷ 0x8B ∷ []) ≡ More
-  pub jmp_far_short : reads off (0xEA ∷ 0x00 ∷ 0x00 ∷ 0x00 ∷ []) ≡ More
-  pub add_83_short : reads off (0x83 ∷ 0xC0 ∷ []) ≡ More
-  pub prefix_direct_short : reads off (0x2E ∷ 0xA1 ∷ 0x00 ∷ []) ≡ More
+  pub test_f6_short : reads off (0xF6 ∷ 0xC0 ∷ []) ≡ Err NotComplete
+  pub ret_short : reads off (0xC2 ∷ 0x04 ∷ []) ≡ Err NotComplete
+  pub prefix_only : reads off (0x26 ∷ []) ≡ Err NotComplete
+  pub mov_only : reads off (0x8B ∷ []) ≡ Err NotComplete
+  pub mov_displacement : reads off (0x8B ∷ 0x86 ∷ 0x00 ∷ []) ≡ Err NotComplete
+  pub aam_only : reads off (0xD4 ∷ []) ≡ Err NotComplete
+  pub prefix_mov : reads off (0x26 ∷ 0x8B ∷ []) ≡ Err NotComplete
+  pub jmp_far_short : reads off (0xEA ∷ 0x00 ∷ 0x00 ∷ 0x00 ∷ []) ≡ Err NotComplete
+  pub add_83_short : reads off (0x83 ∷ 0xC0 ∷ []) ≡ Err NotComplete
+  pub prefix_direct_short : reads off (0x2E ∷ 0xA1 ∷ 0x00 ∷ []) ≡ Err NotComplete
   -- targets
-  pub jmp : reads off (0xE9 ∷ 0x34 ∷ 0x12 ∷ []) ≡ Whole (instruction Op.JMP S.Unspecified (O.Near ((off + 3 + 0x1234) % 65536)) O.None) 3
-  pub jmp_wraps : reads 0 (0xE9 ∷ 0xFD ∷ 0xFF ∷ []) ≡ Whole (instruction Op.JMP S.Unspecified (O.Near 0) O.None) 3
-  pub call : reads 0x100 (0xE8 ∷ 0xFD ∷ 0xFF ∷ []) ≡ Whole (instruction Op.CALL S.Unspecified (O.Near 0x100) O.None) 3
-  pub loop : reads 0x105 (0xE2 ∷ 0xF9 ∷ []) ≡ Whole (instruction Op.LOOP S.Unspecified (O.Near 256) O.None) 2
-  pub jo : reads 0 (0x70 ∷ 0x00 ∷ []) ≡ Whole (instruction Op.JO S.Unspecified (O.Near 2) O.None) 2
-  pub jno : reads 0 (0x71 ∷ 0x00 ∷ []) ≡ Whole (instruction Op.JNO S.Unspecified (O.Near 2) O.None) 2
-  pub loopnz : reads 0 (0xE0 ∷ 0x00 ∷ []) ≡ Whole (instruction Op.LOOPNZ S.Unspecified (O.Near 2) O.None) 2
-  pub loopz : reads 0 (0xE1 ∷ 0x00 ∷ []) ≡ Whole (instruction Op.LOOPZ S.Unspecified (O.Near 2) O.None) 2
-  pub jmp_far : reads off (0xEA ∷ 0x34 ∷ 0x12 ∷ 0x78 ∷ 0x56 ∷ []) ≡ Whole (instruction Op.JMP S.Unspecified (O.Far 0x1234 0x5678) O.None) 5
-  pub jmp_register : reads off (0xFF ∷ 0xE0 ∷ []) ≡ Whole (instruction Op.JMP S.Word (O.Register 0) O.None) 2
+  pub jmp : reads off (0xE9 ∷ 0x34 ∷ 0x12 ∷ []) ≡ Ok (instruction Op.JMP S.Unspecified (O.Near ((off + 3 + 0x1234) % 65536)) O.None, 3)
+  pub jmp_wraps : reads 0 (0xE9 ∷ 0xFD ∷ 0xFF ∷ []) ≡ Ok (instruction Op.JMP S.Unspecified (O.Near 0) O.None, 3)
+  pub call : reads 0x100 (0xE8 ∷ 0xFD ∷ 0xFF ∷ []) ≡ Ok (instruction Op.CALL S.Unspecified (O.Near 0x100) O.None, 3)
+  pub loop : reads 0x105 (0xE2 ∷ 0xF9 ∷ []) ≡ Ok (instruction Op.LOOP S.Unspecified (O.Near 256) O.None, 2)
+  pub jo : reads 0 (0x70 ∷ 0x00 ∷ []) ≡ Ok (instruction Op.JO S.Unspecified (O.Near 2) O.None, 2)
+  pub jno : reads 0 (0x71 ∷ 0x00 ∷ []) ≡ Ok (instruction Op.JNO S.Unspecified (O.Near 2) O.None, 2)
+  pub loopnz : reads 0 (0xE0 ∷ 0x00 ∷ []) ≡ Ok (instruction Op.LOOPNZ S.Unspecified (O.Near 2) O.None, 2)
+  pub loopz : reads 0 (0xE1 ∷ 0x00 ∷ []) ≡ Ok (instruction Op.LOOPZ S.Unspecified (O.Near 2) O.None, 2)
+  pub jmp_far : reads off (0xEA ∷ 0x34 ∷ 0x12 ∷ 0x78 ∷ 0x56 ∷ []) ≡ Ok (instruction Op.JMP S.Unspecified (O.Far 0x1234 0x5678) O.None, 5)
+  pub jmp_register : reads off (0xFF ∷ 0xE0 ∷ []) ≡ Ok (instruction Op.JMP S.Word (O.Register 0) O.None, 2)
 
 -- each row is computed
 pub readings : (off : ℕ) → Readings off

@@ -1,6 +1,7 @@
--- The reader's two questions: Nothing (refusal 10) where no continuation reads, More (refusal 11) where only a continuation does, and what
+-- The reader's two questions: NotAnInstruction (refusal 10) where no continuation reads, NotComplete (refusal 11) where only a continuation does, and what
 -- stands behind an instruction is not looked at.
 -- Assumes nothing.
+use Rattle.std.specs.Prelude.{Ok, Err}
 use mathlib.Core.Path.{◌≡◌, refl, sym, ◌∙◌}
 use Prim.Native.Nat.{ℕ, zero, suc, ◌+◌, ◌*◌, ◌≤◌, ◌<◌}
 use native.Mathlib.Omega.{arith}
@@ -16,12 +17,11 @@ use Rattle.mrc_compiler.specs.Operations.{number_of}
 use Rattle.mrc_compiler.specs.Choose.{pick, both, either}
 use Rattle.x86.specs.declared.Operand.TheVariants as O
 use Rattle.x86.specs.declared.Instruction.{Instruction}
-use Rattle.x86.specs.declared.Read.{Read}
-use Rattle.x86.specs.declared.Read.TheVariants.{Whole, Nothing, More}
+use Rattle.x86.specs.declared.ReadError.TheVariants.{NotAnInstruction, NotComplete}
 use Rattle.x86.specs.Instructions.{instruction, canonical}
 use Rattle.x86.specs.Forms.{Slot, rm, rm_near, mem, mem_far, reg, sreg, sreg_not_cs, acc, low3, bits34, bits34_not_cs, cl, dx, one, moffs, xlat, ib, iw, ib_sx, cb, cw, ptr, nil, Extension, Form, form, forms}
 use Rattle.x86.specs.Forms as F
-use Rattle.x86.specs.Reading.{mode, low, displacement_length, about, fits, some, starting_with, fitting, address_length, has_second, head_length, memory_length, tail_length, names_memory, may_name_memory, displacement_at, rm_at, at, instruction_of, read_form, read_first, read_second, read_opcode, prefix, read_plain, is_repeat, repeats, behind_repeat, reads}
+use Rattle.x86.specs.Reading.{Read, mode, low, displacement_length, about, fits, some, starting_with, fitting, address_length, has_second, head_length, memory_length, tail_length, names_memory, may_name_memory, displacement_at, rm_at, at, instruction_of, read_form, read_first, read_second, read_opcode, prefix, read_plain, is_repeat, repeats, behind_repeat, reads}
 use Rattle.x86.specs.Listing.{Bytes}
 use Rattle.x86.proofs.Tests.{both_parts, same, same_is, is_true, each_of, each_at}
 use Rattle.x86.proofs.ByForm.{more_not_whole, nothing_not_whole, nothing_not_more, in_forms}
@@ -83,16 +83,16 @@ instruction_stays off p c x t u f h =
       at_alike f.second p c x next t (t ++ u) (drop m t) (drop m (t ++ u)) (front_alike _ t u (omega arith)) (rest_alike m _ t u (omega arith)),
     )
 
--- ---- Whole and Nothing stay when bytes are added
+-- ---- an instruction and refusal 10 stay when bytes are added
 -- r, what is read of some bytes, decides r', what is read of them and more
 pub record Stays (r r' : Read) : Type 0 where
-  pub whole : (m : Instruction) (n : ℕ) → r ≡ Whole m n → r' ≡ Whole m n
-  pub nothing : r ≡ Nothing → r' ≡ Nothing
+  pub whole : (m : Instruction) (n : ℕ) → r ≡ Ok (m, n) → r' ≡ Ok (m, n)
+  pub nothing : r ≡ Err NotAnInstruction → r' ≡ Err NotAnInstruction
 
 unchanged : (r : Read) → Stays r r
 unchanged r = record { whole = λ m n e. e; nothing = λ e. e }
 
-open_end : (r : Read) → Stays More r
+open_end : (r : Read) → Stays (Err NotComplete) r
 open_end r = record { whole = λ m n e. absurd (more_not_whole e); nothing = λ e. absurd (nothing_not_more (sym e)) }
 
 stays_pick : (b : Bool) {r s r' s' : Read} → Stays r r' → Stays s s' → Stays (pick b r s) (pick b r' s')
@@ -101,14 +101,14 @@ stays_pick false h k = k
 
 form_stays : (off p c x : ℕ) (t u : List ℕ) (f : Form) → Stays (read_form off p c x t f) (read_form off p c x (t ++ u) f)
 unfolding read_form
-form_stays off p c x t u f = stays_pick (either (eqb p 0) (names_memory f x)) (go (leb (tail_length f x) (length t)) refl) (unchanged Nothing)
+form_stays off p c x t u f = stays_pick (either (eqb p 0) (names_memory f x)) (go (leb (tail_length f x) (length t)) refl) (unchanged (Err NotAnInstruction))
   where
     n : ℕ
     n = head_length p f + tail_length f x
 
     go : (b : Bool) → leb (tail_length f x) (length t) ≡ b
-        → Stays (pick b (Whole (instruction_of off p f c x t) n) More)
-        (pick (leb (tail_length f x) (length (t ++ u))) (Whole (instruction_of off p f c x (t ++ u)) n) More)
+        → Stays (pick b (Ok (instruction_of off p f c x t, n)) (Err NotComplete))
+        (pick (leb (tail_length f x) (length (t ++ u))) (Ok (instruction_of off p f c x (t ++ u), n)) (Err NotComplete))
     go true e =
         let h : tail_length f x ≤ length t = leb-true _ _ e in
         let l : tail_length f x ≤ length (t ++ u) = omega (arith, length-append t u) in
@@ -116,7 +116,7 @@ form_stays off p c x t u f = stays_pick (either (eqb p 0) (names_memory f x)) (g
     go false e = open_end _
 
 first_stays : (off p c x : ℕ) (t u : List ℕ) (fs : List Form) → Stays (read_first off p c x t fs) (read_first off p c x (t ++ u) fs)
-first_stays off p c x t u [] = unchanged Nothing
+first_stays off p c x t u [] = unchanged (Err NotAnInstruction)
 first_stays off p c x t u (f ∷ fs) = form_stays off p c x t u f
 
 second_stays : (off p c : ℕ) (fs : List Form) (t u : List ℕ) → Stays (read_second off p c fs t) (read_second off p c fs (t ++ u))
@@ -129,7 +129,7 @@ opcode_stays off p (c ∷ t) u =
     let fs = starting_with c in
     stays_pick (some (λ f. either (eqb p 0) (may_name_memory f)) fs)
     (stays_pick (some (λ f. has_second f.extension) fs) (second_stays off p c fs t u) (first_stays off p c 0 t u fs))
-    (unchanged Nothing)
+    (unchanged (Err NotAnInstruction))
 
 plain_stays : (off : ℕ) (s u : List ℕ) → Stays (read_plain off s) (read_plain off (s ++ u))
 unfolding read_plain
@@ -149,9 +149,9 @@ same_repeats (b ∷ []) u e l = rw e refl
 same_repeats (b ∷ c ∷ s) u e l = refl
 
 behind_stays : (b : ℕ) (r r' : Read) → Stays r r' → Stays (behind_repeat b r) (behind_repeat b r')
-behind_stays b (Whole m n) r' h = rw (h.whole m n refl) (unchanged _)
-behind_stays b Nothing r' h = rw (h.nothing refl) (unchanged _)
-behind_stays b More r' h = open_end _
+behind_stays b (Ok (m, n)) r' h = rw (h.whole m n refl) (unchanged _)
+behind_stays b (Err NotAnInstruction) r' h = rw (h.nothing refl) (unchanged _)
+behind_stays b (Err NotComplete) r' h = open_end _
 
 -- adding bytes changes neither answer, but of F2 or F3 alone
 pub stays : (off : ℕ) (s u : List ℕ) → is_repeat_alone s ≡ false → Stays (reads off s) (reads off (s ++ u))
@@ -160,10 +160,10 @@ stays off [] u e = open_end _
 stays off (b ∷ s) u e =
     rw (same_repeats (b ∷ s) u e (omega arith)) (stays_pick (repeats (b ∷ s)) (behind_stays b _ _ (plain_stays off s u)) (plain_stays off (b ∷ s) u))
 
--- ---- More has a continuation
+-- ---- what is not complete has a continuation
 -- g reads some bytes t
 abbrev Some : (List ℕ → Read) → Type 0
-Some g = (t : List ℕ) × Bytes t × (m : Instruction) × (n : ℕ) × (g t ≡ Whole m n)
+Some g = (t : List ℕ) × Bytes t × (m : Instruction) × (n : ℕ) × (g t ≡ Ok (m, n))
 
 -- lists of bytes
 pub no_bytes : Bytes []
@@ -177,7 +177,7 @@ zeros : (n : ℕ) → Bytes (replicate n 0)
 zeros zero = no_bytes
 zeros (suc n) = one_more 0 (replicate n 0) (omega arith) (zeros n)
 
-pick_more : (b : Bool) (r : Read) → pick b r Nothing ≡ More → (b ≡ true) × (r ≡ More)
+pick_more : (b : Bool) (r : Read) → pick b r (Err NotAnInstruction) ≡ Err NotComplete → (b ≡ true) × (r ≡ Err NotComplete)
 pick_more true r e = (refl, e)
 pick_more false r e = absurd (nothing_not_more e)
 
@@ -189,7 +189,7 @@ form_some off p c x t f e =
     let l : n ≤ length (t ++ replicate n 0) = omega (arith, length-append t (replicate n 0), length-replicate {A = ℕ} n 0) in
     (replicate n 0, zeros n, instruction_of off p f c x (t ++ replicate n 0), head_length p f + n, rw (e, le-leb n (length (t ++ replicate n 0)) l) refl)
 
-first_some : (off p c x : ℕ) (t : List ℕ) (fs : List Form) → read_first off p c x t fs ≡ More → Some (λ u. read_first off p c x (t ++ u) fs)
+first_some : (off p c x : ℕ) (t : List ℕ) (fs : List Form) → read_first off p c x t fs ≡ Err NotComplete → Some (λ u. read_first off p c x (t ++ u) fs)
 unfolding read_form
 first_some off p c x t [] e = absurd (nothing_not_more e)
 first_some off p c x t (f ∷ fs) e = form_some off p c x t f (pick_more (either (eqb p 0) (names_memory f x)) _ e).0
@@ -239,7 +239,7 @@ next_byte off p c (f ∷ fs) among agrees e =
     allowed false d q e = q ∙ e
 
 second_some : (off p c : ℕ) (t : List ℕ) → c < 256 → some (λ f. either (eqb p 0) (may_name_memory f)) (starting_with c) ≡ true
-    → read_second off p c (starting_with c) t ≡ More → Some (λ u. read_second off p c (starting_with c) (t ++ u))
+    → read_second off p c (starting_with c) t ≡ Err NotComplete → Some (λ u. read_second off p c (starting_with c) (t ++ u))
 second_some off p c [] h o e = next_byte off p c (starting_with c) (λ f m. in_forms c m) (λ f m. memory_agrees c h m) o
 second_some off p c (x ∷ t) h o e = first_some off p c x t (fitting x (starting_with c)) e
 
@@ -255,7 +255,7 @@ xlat_reads off p = go (eqb p 0) refl
     go true e = (0xD7 ∷ [], one_more 0xD7 [] (omega arith) no_bytes, instruction_of off p xlatb 0xD7 0 [], 1, rw e refl)
     go false e = (0xD7 ∷ [], one_more 0xD7 [] (omega arith) no_bytes, instruction_of off p xlatb 0xD7 0 [], 2, rw e refl)
 
-opcode_some : (off p : ℕ) (s : List ℕ) → Bytes s → read_opcode off p s ≡ More → Some (λ u. read_opcode off p (s ++ u))
+opcode_some : (off p : ℕ) (s : List ℕ) → Bytes s → read_opcode off p s ≡ Err NotComplete → Some (λ u. read_opcode off p (s ++ u))
 opcode_some off p [] bs e = xlat_reads off p
 opcode_some off p (c ∷ t) bs e =
     let (o, r) = pick_more (some (λ f. either (eqb p 0) (may_name_memory f)) fs) _ e in
@@ -265,8 +265,8 @@ opcode_some off p (c ∷ t) bs e =
     fs = starting_with c
 
     go : (d b : Bool) → d ≡ true → some (λ f. either (eqb p 0) (may_name_memory f)) fs ≡ true
-        → pick b (read_second off p c fs t) (read_first off p c 0 t fs) ≡ More
-        → Some (λ u. pick d (pick b (read_second off p c fs (t ++ u)) (read_first off p c 0 (t ++ u) fs)) Nothing)
+        → pick b (read_second off p c fs t) (read_first off p c 0 t fs) ≡ Err NotComplete
+        → Some (λ u. pick d (pick b (read_second off p c fs (t ++ u)) (read_first off p c 0 (t ++ u) fs)) (Err NotAnInstruction))
     go true true q o e = second_some off p c t (bs 0) o e
     go true false q o e = first_some off p c 0 t fs e
     go false b q o e = let z : ◌≡◌ {A = ℕ} 0 1 = cc in absurd (omega arith)
@@ -274,21 +274,21 @@ opcode_some off p (c ∷ t) bs e =
 -- ---- the two questions
 -- some continuation makes s read
 abbrev pub Continues : ℕ → List ℕ → Type 0
-Continues off s = (t : List ℕ) × Bytes t × (m : Instruction) × (n : ℕ) × (reads off (s ++ t) ≡ Whole m n)
+Continues off s = (t : List ℕ) × Bytes t × (m : Instruction) × (n : ℕ) × (reads off (s ++ t) ≡ Ok (m, n))
 
 -- what stands behind an instruction is not looked at, but behind F2 or F3 alone
-pub whole_stays : (off : ℕ) (s t : List ℕ) (m : Instruction) (n : ℕ) → is_repeat_alone s ≡ false → reads off s ≡ Whole m n → reads off (s ++ t) ≡ Whole m n
+pub whole_stays : (off : ℕ) (s t : List ℕ) (m : Instruction) (n : ℕ) → is_repeat_alone s ≡ false → reads off s ≡ Ok (m, n) → reads off (s ++ t) ≡ Ok (m, n)
 whole_stays off s t m n h e = (stays off s t h).whole m n e
 
 -- F2 or F3 alone is whole
-pub alone_whole : (off : ℕ) (s : List ℕ) → is_repeat_alone s ≡ true → (m : Instruction) × (reads off s ≡ Whole m 1)
+pub alone_whole : (off : ℕ) (s : List ℕ) → is_repeat_alone s ≡ true → (m : Instruction) × (reads off s ≡ Ok (m, 1))
 unfolding reads repeats
 alone_whole off [] e = let z : ◌≡◌ {A = ℕ} 0 1 = cc in absurd (omega arith)
 alone_whole off (b ∷ []) e = let (op, k) = alone off b [] e in (bare op, rw e k)
 alone_whole off (b ∷ c ∷ s) e = let z : ◌≡◌ {A = ℕ} 0 1 = cc in absurd (omega arith)
 
 -- so what is no instruction is not it
-not_alone : (off : ℕ) (s : List ℕ) → ((m : Instruction) (n : ℕ) → reads off s ≡ Whole m n → ⊥) → is_repeat_alone s ≡ false
+not_alone : (off : ℕ) (s : List ℕ) → ((m : Instruction) (n : ℕ) → reads off s ≡ Ok (m, n) → ⊥) → is_repeat_alone s ≡ false
 not_alone off s h = go (is_repeat_alone s) refl
   where
     go : (i : Bool) → is_repeat_alone s ≡ i → i ≡ false
@@ -296,25 +296,25 @@ not_alone off s h = go (is_repeat_alone s) refl
     go false e = refl
 
 -- what reads as nothing does so whatever follows
-pub nothing_never : (off : ℕ) (s t : List ℕ) → reads off s ≡ Nothing → reads off (s ++ t) ≡ Nothing
+pub nothing_never : (off : ℕ) (s t : List ℕ) → reads off s ≡ Err NotAnInstruction → reads off (s ++ t) ≡ Err NotAnInstruction
 nothing_never off s t e = (stays off s t (not_alone off s (λ m n k. nothing_not_whole (sym e ∙ k)))).nothing e
 
 nothing_yet : (off : ℕ) → Continues off []
 unfolding reads read_plain repeats is_repeat read_form starting_with prefix forms canonical number_of
 nothing_yet off = (0x90 ∷ [], one_more 0x90 [] (omega arith) no_bytes, instruction Op.NOP S.Unspecified O.None O.None, 1, refl)
 
-plain_some : (off : ℕ) (s : List ℕ) → Bytes s → 1 ≤ length s → read_plain off s ≡ More → Some (λ u. read_plain off (s ++ u))
+plain_some : (off : ℕ) (s : List ℕ) → Bytes s → 1 ≤ length s → read_plain off s ≡ Err NotComplete → Some (λ u. read_plain off (s ++ u))
 unfolding read_plain
 plain_some off [] bs l e = absurd (omega arith)
 plain_some off (b ∷ s) bs l e = go (prefix b) e
   where
-    go : (q : Bool) → pick q (read_opcode off b s) (read_opcode off 0 (b ∷ s)) ≡ More
+    go : (q : Bool) → pick q (read_opcode off b s) (read_opcode off 0 (b ∷ s)) ≡ Err NotComplete
         → Some (λ u. pick q (read_opcode off b (s ++ u)) (read_opcode off 0 (b ∷ (s ++ u))))
     go true e = opcode_some off b s (λ i. bs (suc i)) e
     go false e = opcode_some off 0 (b ∷ s) bs e
 
 -- what is not complete has a continuation that is
-pub more_some : (off : ℕ) (s : List ℕ) → Bytes s → reads off s ≡ More → Continues off s
+pub more_some : (off : ℕ) (s : List ℕ) → Bytes s → reads off s ≡ Err NotComplete → Continues off s
 more_some off [] bs e = nothing_yet off
 more_some off (b ∷ s) bs e = go (how_read off (b ∷ s))
   where
@@ -329,34 +329,34 @@ more_some off (b ∷ s) bs e = go (how_read off (b ∷ s))
 
 -- the three answers
 pub data Answer (off : ℕ) (s : List ℕ) : Type 0 where
-  is_whole : (m : Instruction) (n : ℕ) → reads off s ≡ Whole m n → Answer off s
-  is_nothing : reads off s ≡ Nothing → Answer off s
-  is_more : reads off s ≡ More → Answer off s
+  is_whole : (m : Instruction) (n : ℕ) → reads off s ≡ Ok (m, n) → Answer off s
+  is_nothing : reads off s ≡ Err NotAnInstruction → Answer off s
+  is_more : reads off s ≡ Err NotComplete → Answer off s
 
 -- every string has one of them
 pub answer : (off : ℕ) (s : List ℕ) → Answer off s
 answer off s = go (reads off s) refl
   where
     go : (r : Read) → reads off s ≡ r → Answer off s
-    go (Whole m n) e = is_whole m n e
-    go Nothing e = is_nothing e
-    go More e = is_more e
+    go (Ok (m, n)) e = is_whole m n e
+    go (Err NotAnInstruction) e = is_nothing e
+    go (Err NotComplete) e = is_more e
 
 -- what documents 01 and 02 (No. 11) say of the answers: 10 exactly where no continuation reads, 11 exactly where a continuation reads and s does not;
 -- behind F2 or F3 alone, and nowhere else, the next byte is looked at
 pub record Answers (off : ℕ) (s : List ℕ) : Type 0 where
-  pub behind : (t : List ℕ) (m : Instruction) (n : ℕ) → is_repeat_alone s ≡ false → reads off s ≡ Whole m n → reads off (s ++ t) ≡ Whole m n
-  pub fits_in : (m : Instruction) (n : ℕ) → reads off s ≡ Whole m n → n ≤ length s
-  pub ten : reads off s ≡ Nothing → Continues off s → ⊥
-  pub ten_only : (Continues off s → ⊥) → reads off s ≡ Nothing
-  pub eleven : reads off s ≡ More → ((m : Instruction) (n : ℕ) → reads off s ≡ Whole m n → ⊥) × Continues off s
-  pub eleven_only : ((m : Instruction) (n : ℕ) → reads off s ≡ Whole m n → ⊥) → Continues off s → reads off s ≡ More
+  pub behind : (t : List ℕ) (m : Instruction) (n : ℕ) → is_repeat_alone s ≡ false → reads off s ≡ Ok (m, n) → reads off (s ++ t) ≡ Ok (m, n)
+  pub fits_in : (m : Instruction) (n : ℕ) → reads off s ≡ Ok (m, n) → n ≤ length s
+  pub ten : reads off s ≡ Err NotAnInstruction → Continues off s → ⊥
+  pub ten_only : (Continues off s → ⊥) → reads off s ≡ Err NotAnInstruction
+  pub eleven : reads off s ≡ Err NotComplete → ((m : Instruction) (n : ℕ) → reads off s ≡ Ok (m, n) → ⊥) × Continues off s
+  pub eleven_only : ((m : Instruction) (n : ℕ) → reads off s ≡ Ok (m, n) → ⊥) → Continues off s → reads off s ≡ Err NotComplete
 
-never : (off : ℕ) (s : List ℕ) → reads off s ≡ Nothing → Continues off s → ⊥
+never : (off : ℕ) (s : List ℕ) → reads off s ≡ Err NotAnInstruction → Continues off s → ⊥
 never off s e (t, bs, m, n, w) = nothing_not_whole (sym (nothing_never off s t e) ∙ w)
 
 -- s continued by no bytes is s
-itself : (off : ℕ) (s : List ℕ) (m : Instruction) (n : ℕ) → reads off s ≡ Whole m n → Continues off s
+itself : (off : ℕ) (s : List ℕ) (m : Instruction) (n : ℕ) → reads off s ≡ Ok (m, n) → Continues off s
 itself off s m n e = ([], no_bytes, m, n, rw (append-nil s) e)
 
 -- and so it is
@@ -371,12 +371,12 @@ answers off s bs =
       eleven_only = only_eleven (answer off s);
     }
   where
-    only_ten : Answer off s → (Continues off s → ⊥) → reads off s ≡ Nothing
+    only_ten : Answer off s → (Continues off s → ⊥) → reads off s ≡ Err NotAnInstruction
     only_ten (is_whole m n e) h = absurd (h (itself off s m n e))
     only_ten (is_nothing e) h = e
     only_ten (is_more e) h = absurd (h (more_some off s bs e))
 
-    only_eleven : Answer off s → ((m : Instruction) (n : ℕ) → reads off s ≡ Whole m n → ⊥) → Continues off s → reads off s ≡ More
+    only_eleven : Answer off s → ((m : Instruction) (n : ℕ) → reads off s ≡ Ok (m, n) → ⊥) → Continues off s → reads off s ≡ Err NotComplete
     only_eleven (is_whole m n e) h k = absurd (h m n e)
     only_eleven (is_nothing e) h k = absurd (never off s e k)
     only_eleven (is_more e) h k = e

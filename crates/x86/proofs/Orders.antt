@@ -1,6 +1,6 @@
 -- Which operands change places in the canonical instruction: XCHG's by their order, TEST's where memory stands before a register.
 -- Assumes nothing.
-use mathlib.Core.Path.{◌≡◌, refl}
+use mathlib.Core.Path.{◌≡◌}
 use Prim.Native.Nat.{ℕ}
 use mathlib.Core.Bool.{true, false}
 use borrow.Author.Tests.{eqb-true}

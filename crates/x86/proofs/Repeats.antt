@@ -1,7 +1,8 @@
 -- REPNE and REP: what is read of F2 or F3 alone and before a string operation, and where the reading is that without a repeat.
 -- Assumes nothing.
-use mathlib.Core.Path.{◌≡◌, refl, sym, ◌∙◌}
-use Prim.Native.Nat.{ℕ, suc, ◌≤◌, ◌<◌, zero-le}
+use Rattle.std.specs.Prelude.{Ok, Err}
+use mathlib.Core.Path.{◌≡◌, refl, sym, ap, ◌∙◌}
+use Prim.Native.Nat.{ℕ, ◌≤◌, ◌<◌, zero-le}
 use native.Mathlib.Omega.{arith}
 use mathlib.Core.Bool.{Bool, true, false}
 use mathlib.Core.List.{List, [], ◌∷◌, Memᴰ}
@@ -17,14 +18,13 @@ use Rattle.mrc_compiler.specs.Operations.{number_of, is_string}
 use Rattle.x86.specs.declared.Operand.{Operand}
 use Rattle.x86.specs.declared.Operand.TheVariants as O
 use Rattle.x86.specs.declared.Instruction.{Instruction}
-use Rattle.x86.specs.declared.Read.{Read}
-use Rattle.x86.specs.declared.Read.TheVariants.{Whole, Nothing, More}
+use Rattle.x86.specs.declared.ReadError.TheVariants.{NotAnInstruction}
 use Rattle.x86.specs.Instructions.{instruction, is_nop, crossing, canonical, repeated}
 use Rattle.x86.specs.Forms.{Extension, Form, form, forms}
 use Rattle.x86.specs.Forms as F
-use Rattle.x86.specs.Reading.{opcode_fits, has_opcode, some, starting_with, read_form, read_opcode, prefix, read_plain, is_repeat, begins_string, repeats, behind_repeat, reads}
-use Rattle.x86.proofs.Tests.{both_parts, both_first, is_true, each_of, each_at, kept, passed}
-use Rattle.x86.proofs.ByForm.{more_not_whole, nothing_not_whole, opcode_by, form_reads, in_forms, plain_not_longer}
+use Rattle.x86.specs.Reading.{Read, opcode_fits, has_opcode, some, starting_with, read_form, read_opcode, prefix, read_plain, is_repeat, begins_string, repeats, reads}
+use Rattle.x86.proofs.Tests.{both_parts, both_first, is_true, each_of, each_at, passed}
+use Rattle.x86.proofs.ByForm.{more_not_whole, nothing_not_whole, same_parts, opcode_by, form_reads, in_forms, plain_not_longer}
 
 -- an instruction without operands
 abbrev pub bare : Operation → Instruction
@@ -49,12 +49,12 @@ abbrev pub single : ℕ → Operation → Form
 single c op = form c F.no op F.nil F.nil
 
 single_reads : (off c : ℕ) (s : List ℕ) (op : Operation) → starting_with c ≡ single c op ∷ [] → prefix c ≡ false → canonical op S.Unspecified O.None O.None ≡ bare op
-    → read_plain off (c ∷ s) ≡ Whole (bare op) 1
+    → read_plain off (c ∷ s) ≡ Ok (bare op, 1)
 unfolding read_plain read_form
 single_reads off c s op e p k = rw (p, e, le-leb 0 (length s) zero-le, k) refl
 
 -- F2 and F3, whatever stands behind
-pub alone : (off b : ℕ) (s : List ℕ) → is_repeat b ≡ true → (op : Operation) × (read_plain off (b ∷ s) ≡ Whole (bare op) 1)
+pub alone : (off b : ℕ) (s : List ℕ) → is_repeat b ≡ true → (op : Operation) × (read_plain off (b ∷ s) ≡ Ok (bare op, 1))
 unfolding is_repeat starting_with prefix forms canonical number_of
 alone off b s e =
     either_cases (eqb b 0xF2) (eqb b 0xF3) e
@@ -112,7 +112,7 @@ pub record StringAt (off : ℕ) (s : List ℕ) : Type 0 where
   pub one_form : starting_with c ≡ single c op ∷ []
   pub no_prefix : prefix c ≡ false
   pub listed : Memᴰ (single c op) forms
-  pub reads_it : read_plain off s ≡ Whole (bare op) 1
+  pub reads_it : read_plain off s ≡ Ok (bare op, 1)
 
 string_is : (off c : ℕ) (s : List ℕ) (op : Operation) → is_string op ≡ true → starting_with c ≡ single c op ∷ [] → prefix c ≡ false
     → canonical op S.Unspecified O.None O.None ≡ bare op → StringAt off (c ∷ s)
@@ -152,7 +152,7 @@ pub record Repeated (off : ℕ) (s : List ℕ) : Type 0 where
   pub in_order : s ≡ b ∷ behind
   pub byte_is_repeat : is_repeat b ≡ true
   pub repeats_it : repeats s ≡ true
-  pub reads_it : reads off s ≡ Whole (repeated b (bare string.op)) 2
+  pub reads_it : reads off s ≡ Ok (repeated b (bare string.op), 2)
   pub long : 2 ≤ length s
 
 pub plain : (off : ℕ) (s : List ℕ) → repeats s ≡ false → reads off s ≡ read_plain off s
@@ -190,18 +190,19 @@ how_read off (b ∷ s) = go (is_repeat b) (begins_string s) refl refl
     go false j e k = let h : repeats (b ∷ s) ≡ false = rw e refl in without h (plain off (b ∷ s) h)
 
 -- F2 or F3 with bytes behind it is not read to the last byte without them
-pub whole_plain : (off : ℕ) (s : List ℕ) (m : Instruction) → read_plain off s ≡ Whole m (length s) → reads off s ≡ Whole m (length s)
+pub whole_plain : (off : ℕ) (s : List ℕ) (m : Instruction) → read_plain off s ≡ Ok (m, length s) → reads off s ≡ Ok (m, length s)
 whole_plain off s m e = go (how_read off s)
   where
-    go : HowRead off s → reads off s ≡ Whole m (length s)
+    go : HowRead off s → reads off s ≡ Ok (m, length s)
     go (with_repeat r) =
         let (op, k) = alone off r.b r.behind r.byte_is_repeat in
-        let z : 1 ≡ length s = cc in
+        let p : ◌≡◌ {A = Read} (Ok (m, length s)) (Ok (bare op, 1)) = cc in
+        let z : length s ≡ 1 = (same_parts p).1 in
         absurd (omega (arith, r.long))
     go (without n q) = q ∙ e
 
 -- what is no instruction without a repeat is none
-pub unread_plain : (off : ℕ) (s : List ℕ) → ((m : Instruction) (n : ℕ) → read_plain off s ≡ Whole m n → ⊥) → repeats s ≡ false
+pub unread_plain : (off : ℕ) (s : List ℕ) → ((m : Instruction) (n : ℕ) → read_plain off s ≡ Ok (m, n) → ⊥) → repeats s ≡ false
 unfolding repeats
 unread_plain off [] h = refl
 unread_plain off (b ∷ s) h = go (is_repeat b) refl
@@ -210,7 +211,7 @@ unread_plain off (b ∷ s) h = go (is_repeat b) refl
     go true e = let (op, k) = alone off b s e in absurd (h (bare op) 1 k)
     go false e = refl
 
-pub nothing_plain : (off : ℕ) (s : List ℕ) → read_plain off s ≡ Nothing → reads off s ≡ Nothing
+pub nothing_plain : (off : ℕ) (s : List ℕ) → read_plain off s ≡ Err NotAnInstruction → reads off s ≡ Err NotAnInstruction
 nothing_plain off s e = plain off s (unread_plain off s (λ m n k. nothing_not_whole (sym e ∙ k))) ∙ e
 
 -- ---- the repeat of what is read
@@ -225,17 +226,17 @@ pub canonical_repeat : (op : Operation) (w : OperandSize) (a b : Operand) → (c
 unfolding canonical
 canonical_repeat op w a b = pick_repeat (is_nop op w a b) _ _ refl (pick_repeat (crossing op a b) _ _ refl refl)
 
-opcode_repeat : (off p : ℕ) (s : List ℕ) (m : Instruction) (n : ℕ) → read_opcode off p s ≡ Whole m n → m.repeat ≡ 0
+opcode_repeat : (off p : ℕ) (s : List ℕ) (m : Instruction) (n : ℕ) → read_opcode off p s ≡ Ok (m, n) → m.repeat ≡ 0
 opcode_repeat off p s m n e =
     let r = opcode_by off p s e in
     rw (form_reads off p r.c r.x r.t r.f r.read) (canonical_repeat _ _ _ _)
 
-pub plain_repeat : (off : ℕ) (s : List ℕ) (m : Instruction) (n : ℕ) → read_plain off s ≡ Whole m n → m.repeat ≡ 0
+pub plain_repeat : (off : ℕ) (s : List ℕ) (m : Instruction) (n : ℕ) → read_plain off s ≡ Ok (m, n) → m.repeat ≡ 0
 unfolding read_plain
 plain_repeat off [] m n e = absurd (more_not_whole e)
 plain_repeat off (b ∷ s) m n e = go (prefix b) e
   where
-    go : (q : Bool) → pick q (read_opcode off b s) (read_opcode off 0 (b ∷ s)) ≡ Whole m n → m.repeat ≡ 0
+    go : (q : Bool) → pick q (read_opcode off b s) (read_opcode off 0 (b ∷ s)) ≡ Ok (m, n) → m.repeat ≡ 0
     go true e = opcode_repeat off b s m n e
     go false e = opcode_repeat off 0 (b ∷ s) m n e
 
@@ -251,17 +252,17 @@ repeat_some b e =
     either_cases (eqb b 0xF2) (eqb b 0xF3) e (λ k. rw (eqb-true b 0xF2 k) refl) (λ k. rw (eqb-true b 0xF3 k) refl)
 
 -- what is read has a repeat where the bytes begin with one
-pub repeats_by : (off : ℕ) (s : List ℕ) (m : Instruction) (n : ℕ) → reads off s ≡ Whole m n → repeats s ≡ isnt (eqb m.repeat 0)
+pub repeats_by : (off : ℕ) (s : List ℕ) (m : Instruction) (n : ℕ) → reads off s ≡ Ok (m, n) → repeats s ≡ isnt (eqb m.repeat 0)
 repeats_by off s m n e = go (how_read off s)
   where
     go : HowRead off s → repeats s ≡ isnt (eqb m.repeat 0)
-    go (with_repeat r) = let q : m.repeat ≡ r.b = cc in rw (q, repeat_some r.b r.byte_is_repeat) r.repeats_it
+    go (with_repeat r) = let q : m.repeat ≡ r.b = ap (λ (i : Instruction). i.repeat) (same_parts (sym e ∙ r.reads_it)).0 in rw (q, repeat_some r.b r.byte_is_repeat) r.repeats_it
     go (without h q) = rw (plain_repeat off s m n (sym q ∙ e)) h
 
 -- ---- an instruction is not longer than the bytes
-pub not_longer : (off : ℕ) (s : List ℕ) (m : Instruction) (n : ℕ) → reads off s ≡ Whole m n → n ≤ length s
+pub not_longer : (off : ℕ) (s : List ℕ) (m : Instruction) (n : ℕ) → reads off s ≡ Ok (m, n) → n ≤ length s
 not_longer off s m n e = go (how_read off s)
   where
     go : HowRead off s → n ≤ length s
-    go (with_repeat r) = let q : n ≡ 2 = cc in omega (arith, r.long)
+    go (with_repeat r) = let q : n ≡ 2 = (same_parts (sym e ∙ r.reads_it)).1 in omega (arith, r.long)
     go (without h q) = plain_not_longer off s m n (sym q ∙ e)

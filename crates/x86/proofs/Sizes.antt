@@ -1,5 +1,6 @@
 -- An instruction is 1 to 7 bytes long.
 -- Assumes nothing.
+use Rattle.std.specs.Prelude.{Ok}
 use mathlib.Core.Path.{◌≡◌, sym, ◌∙◌}
 use Prim.Native.Nat.{ℕ, ◌+◌, ◌≤◌, zero-le}
 use native.Mathlib.Omega.{arith}
@@ -8,11 +9,10 @@ use mathlib.Core.List.{List, [], ◌∷◌}
 use lib.Dec.{T, leb, leb→le, lit≤}
 use Rattle.mrc_compiler.specs.Choose.{pick}
 use Rattle.x86.specs.declared.Instruction.{Instruction}
-use Rattle.x86.specs.declared.Read.TheVariants.{Whole}
 use Rattle.x86.specs.Forms.{Form, forms}
 use Rattle.x86.specs.Reading.{Place, nowhere, by_modrm, by_address, by_bx_al, about, address_length, has_second, read_opcode, prefix, read_plain, reads}
 use Rattle.x86.proofs.Tests.{each_of, each_at}
-use Rattle.x86.proofs.ByForm.{more_not_whole, ByForm, opcode_by, form_length, in_forms, prefix_length}
+use Rattle.x86.proofs.ByForm.{more_not_whole, same_parts, ByForm, opcode_by, form_length, in_forms, prefix_length}
 use Rattle.x86.proofs.Repeats.{HowRead, with_repeat, without, how_read}
 
 -- the most address bytes that a place takes
@@ -56,19 +56,19 @@ form_size off p s m n r =
     )
 
 -- with its prefix an instruction has 1 to 7 bytes
-plain_size : (off : ℕ) (s : List ℕ) (m : Instruction) (n : ℕ) → read_plain off s ≡ Whole m n → (1 ≤ n) × (n ≤ 7)
+plain_size : (off : ℕ) (s : List ℕ) (m : Instruction) (n : ℕ) → read_plain off s ≡ Ok (m, n) → (1 ≤ n) × (n ≤ 7)
 unfolding read_plain
 plain_size off [] m n e = absurd (more_not_whole e)
 plain_size off (b ∷ s) m n e = go (prefix b) e
   where
-    go : (q : Bool) → pick q (read_opcode off b s) (read_opcode off 0 (b ∷ s)) ≡ Whole m n → (1 ≤ n) × (n ≤ 7)
+    go : (q : Bool) → pick q (read_opcode off b s) (read_opcode off 0 (b ∷ s)) ≡ Ok (m, n) → (1 ≤ n) × (n ≤ 7)
     go true e = form_size off b s m n (opcode_by off b s e)
     go false e = form_size off 0 (b ∷ s) m n (opcode_by off 0 (b ∷ s) e)
 
 -- and so it has with a repeat
-pub read_size : (off : ℕ) (s : List ℕ) (m : Instruction) (n : ℕ) → reads off s ≡ Whole m n → (1 ≤ n) × (n ≤ 7)
+pub read_size : (off : ℕ) (s : List ℕ) (m : Instruction) (n : ℕ) → reads off s ≡ Ok (m, n) → (1 ≤ n) × (n ≤ 7)
 read_size off s m n e = go (how_read off s)
   where
     go : HowRead off s → (1 ≤ n) × (n ≤ 7)
-    go (with_repeat r) = let q : n ≡ 2 = cc in (omega arith, omega arith)
+    go (with_repeat r) = let q : n ≡ 2 = (same_parts (sym e ∙ r.reads_it)).1 in (omega arith, omega arith)
     go (without h q) = plain_size off s m n (sym q ∙ e)

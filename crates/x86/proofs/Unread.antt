@@ -1,16 +1,16 @@
 -- What the table does not read, by document 01's sentences: the first bytes and the second bytes that read as nothing, all of them and no other.
 -- Assumes nothing.
+use Rattle.std.specs.Prelude.{Err}
 use mathlib.Core.Path.{◌≡◌, refl, sym, ◌∙◌}
 use Prim.Native.Nat.{ℕ, ◌<◌}
 use mathlib.Core.Bool.{Bool, true, false}
 use mathlib.Core.List.{List, [], ◌∷◌}
-use lib.Dec.{T, eqb, ltb, leb}
+use lib.Dec.{T, eqb, leb}
 use lib.ListN.{get_or}
 use Rattle.mrc_compiler.specs.Choose.{pick, both, either, isnt}
-use Rattle.x86.specs.declared.Read.{Read}
-use Rattle.x86.specs.declared.Read.TheVariants.{Nothing}
+use Rattle.x86.specs.declared.ReadError.TheVariants.{NotAnInstruction}
 use Rattle.x86.specs.Forms.{Form, forms}
-use Rattle.x86.specs.Reading.{mode, digit, some, starting_with, fitting, has_second, may_name_memory, read_opcode, prefix, read_plain, reads}
+use Rattle.x86.specs.Reading.{Read, mode, digit, some, starting_with, fitting, has_second, may_name_memory, read_opcode, prefix, read_plain, reads}
 use Rattle.x86.specs.Rows.{rows}
 use Rattle.x86.proofs.Tests.{same, same_is, up_to, up_to_at}
 use Rattle.x86.proofs.Repeats.{one_of, nothing_plain}
@@ -82,32 +82,32 @@ is_empty : (fs : List Form) → empty fs ≡ true → fs ≡ []
 is_empty [] e = refl
 is_empty (f ∷ fs) e = cc
 
-opcode_first : (off p c : ℕ) (t : List ℕ) → c < 256 → unread_first c ≡ true → read_opcode off p (c ∷ t) ≡ Nothing
+opcode_first : (off p c : ℕ) (t : List ℕ) → c < 256 → unread_first c ≡ true → read_opcode off p (c ∷ t) ≡ Err NotAnInstruction
 opcode_first off p c t h u =
     let e : starting_with c ≡ [] = is_empty (starting_with c) (first_is c h ∙ u) in
     rw e refl
 
-opcode_second : (off p c x : ℕ) (t : List ℕ) → c < 256 → x < 256 → wants_second (starting_with c) ≡ true → unread_second c x ≡ true → read_opcode off p (c ∷ x ∷ t) ≡ Nothing
+opcode_second : (off p c x : ℕ) (t : List ℕ) → c < 256 → x < 256 → wants_second (starting_with c) ≡ true → unread_second c x ≡ true → read_opcode off p (c ∷ x ∷ t) ≡ Err NotAnInstruction
 opcode_second off p c x t h k w u =
     let e : fitting x (starting_with c) ≡ [] = is_empty (fitting x (starting_with c)) (second_is c x h k w ∙ u) in
     rw (w, e) (go (some (λ f. either (eqb p 0) (may_name_memory f)) (starting_with c)))
   where
-    go : (b : Bool) → ◌≡◌ {A = Read} (pick b Nothing Nothing) Nothing
+    go : (b : Bool) → ◌≡◌ {A = Read} (pick b (Err NotAnInstruction) (Err NotAnInstruction)) (Err NotAnInstruction)
     go true = refl
     go false = refl
 
 -- first in the string
-pub first_nothing : (off c : ℕ) (s : List ℕ) → c < 256 → prefix c ≡ false → unread_first c ≡ true → reads off (c ∷ s) ≡ Nothing
+pub first_nothing : (off c : ℕ) (s : List ℕ) → c < 256 → prefix c ≡ false → unread_first c ≡ true → reads off (c ∷ s) ≡ Err NotAnInstruction
 unfolding read_plain
 first_nothing off c s h b u = nothing_plain off (c ∷ s) (rw b (opcode_first off 0 c s h u))
 
 -- behind a prefix
-pub behind_prefix_nothing : (off p c : ℕ) (s : List ℕ) → c < 256 → prefix p ≡ true → unread_first c ≡ true → reads off (p ∷ c ∷ s) ≡ Nothing
+pub behind_prefix_nothing : (off p c : ℕ) (s : List ℕ) → c < 256 → prefix p ≡ true → unread_first c ≡ true → reads off (p ∷ c ∷ s) ≡ Err NotAnInstruction
 unfolding read_plain
 behind_prefix_nothing off p c s h b u = nothing_plain off (p ∷ c ∷ s) (rw b (opcode_first off p c s h u))
 
 -- as the second byte
 pub second_nothing : (off c x : ℕ) (s : List ℕ) → c < 256 → x < 256 → prefix c ≡ false → wants_second (starting_with c) ≡ true → unread_second c x ≡ true
-    → reads off (c ∷ x ∷ s) ≡ Nothing
+    → reads off (c ∷ x ∷ s) ≡ Err NotAnInstruction
 unfolding read_plain
 second_nothing off c x s h k b w u = nothing_plain off (c ∷ x ∷ s) (rw b (opcode_second off 0 c x s h k w u))

@@ -1,8 +1,7 @@
 -- The listing of an instruction at an offset, as demand 3 states it: which strings, in which order.
 -- Definitions only.
-use Rattle.std.specs.Prelude.{ℕ, ◌<◌, ◌≤◌, ◌≡◌, ◌⊎◌, List, [], ◌∷◌, length, get_or}
+use Rattle.std.specs.Prelude.{ℕ, ◌<◌, ◌≤◌, ◌≡◌, ◌⊎◌, List, [], ◌∷◌, length, get_or, Ok}
 use Rattle.x86.specs.declared.Instruction.{Instruction}
-use Rattle.x86.specs.declared.Read.TheVariants.{Whole}
 use Rattle.x86.specs.Reading.{reads}
 
 -- numbers below 256
@@ -11,7 +10,7 @@ Bytes s = (i : ℕ) → get_or s i 0 < 256
 
 -- s reads, to the last byte, as the instruction m at an offset
 abbrev pub ReadsAs : ℕ → Instruction → List ℕ → Type 0
-ReadsAs off m s = reads off s ≡ Whole m (length s)
+ReadsAs off m s = reads off s ≡ Ok (m, length s)
 
 pub data Among (s : List ℕ) : List (List ℕ) → Type 0 where
   here : {l : List (List ℕ)} → Among s (s ∷ l)

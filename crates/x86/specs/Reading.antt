@@ -1,18 +1,17 @@
 -- What the forms read at the front of some bytes (REFERENCE 6).
 -- Definitions only.
-use Rattle.std.specs.Prelude.{ℕ, suc, ◌+◌, ◌*◌, ◌/◌, ◌%◌, Bool, true, false, List, [], ◌∷◌, eqb, ltb, leb, length, get_or, drop}
+use Rattle.std.specs.Prelude.{ℕ, Result, suc, ◌+◌, ◌*◌, ◌/◌, ◌%◌, Bool, true, false, List, [], ◌∷◌, eqb, ltb, leb, length, get_or, drop, Ok, Err}
 use Rattle.mrc_compiler.specs.declared.ast.Segment.TheVariants as G
 use Rattle.mrc_compiler.specs.declared.encoder.OperandSize.{OperandSize}
-use Rattle.mrc_compiler.specs.declared.encoder.OperandSize.TheVariants as S
 use Rattle.mrc_compiler.specs.Choose.{pick, both, either, isnt, by_size}
 use Rattle.mrc_compiler.specs.Operations.{is_string}
 use Rattle.x86.specs.declared.Operand.{Operand}
 use Rattle.x86.specs.declared.Operand.TheVariants as O
 use Rattle.x86.specs.declared.Instruction.{Instruction}
-use Rattle.x86.specs.declared.Read.{Read}
-use Rattle.x86.specs.declared.Read.TheVariants.{Whole, Nothing, More}
+use Rattle.x86.specs.declared.ReadError.{ReadError}
+use Rattle.x86.specs.declared.ReadError.TheVariants.{NotAnInstruction, NotComplete}
 use Rattle.x86.specs.Instructions.{default_segment, in_effect, base, canonical, repeated}
-use Rattle.x86.specs.Forms.{byte, word, Slot, rm, rm_near, mem, mem_far, reg, sreg, sreg_not_cs, acc, low3, bits34, bits34_not_cs, cl, dx, one, moffs, xlat, ib, iw, ib_sx, cb, cw, ptr, nil, Extension, Form, forms}
+use Rattle.x86.specs.Forms.{Slot, rm, rm_near, mem, mem_far, reg, sreg, sreg_not_cs, acc, low3, bits34, bits34_not_cs, cl, dx, one, moffs, xlat, ib, iw, ib_sx, cb, cw, ptr, nil, Extension, Form, forms}
 use Rattle.x86.specs.Forms as F
 -- what is known of a slot before the bytes behind the opcode are read
 pub use Rattle.x86_forms.specs.declared.About.{About}
@@ -200,6 +199,15 @@ at ptr p c x next t u = O.Far (word_at 0 u) (word_at 2 u)
 at nil p c x next t u = O.None
 
 -- ---- the reading
+-- what stands at the front of some bytes: an instruction with its length, or why it is none
+abbrev pub Read : Type 0
+Read = Result (Instruction × ℕ) ReadError
+
+-- document 01's numbers of the refusals
+abbrev pub refusal_number : ReadError → ℕ
+refusal_number NotAnInstruction = 10
+refusal_number NotComplete = 11
+
 abbrev pub instruction_of : ℕ → ℕ → Form → ℕ → ℕ → List ℕ → Instruction
 instruction_of off p f c x t =
     let next = off + (head_length p f + tail_length f x) in
@@ -210,16 +218,16 @@ instruction_of off p f c x t =
 unfoldable pub read_form : ℕ → ℕ → ℕ → ℕ → List ℕ → Form → Read
 read_form off p c x t f =
     pick (either (eqb p 0) (names_memory f x))
-    (pick (leb (tail_length f x) (length t)) (Whole (instruction_of off p f c x t) (head_length p f + tail_length f x)) More)
-    Nothing
+    (pick (leb (tail_length f x) (length t)) (Ok (instruction_of off p f c x t, head_length p f + tail_length f x)) (Err NotComplete))
+    (Err NotAnInstruction)
 
 -- by the form that fits. There is one at most (Unambiguous), but for 90, whose two forms are the same instruction
 abbrev pub read_first : ℕ → ℕ → ℕ → ℕ → List ℕ → List Form → Read
-read_first off p c x t [] = Nothing
+read_first off p c x t [] = Err NotAnInstruction
 read_first off p c x t (f ∷ fs) = read_form off p c x t f
 
 abbrev pub read_second : ℕ → ℕ → ℕ → List Form → List ℕ → Read
-read_second off p c fs [] = More
+read_second off p c fs [] = Err NotComplete
 read_second off p c fs (x ∷ t) = read_first off p c x t (fitting x fs)
 
 -- behind the first byte c, whose forms are fs
@@ -227,10 +235,10 @@ abbrev pub read_behind : ℕ → ℕ → ℕ → List Form → List ℕ → Read
 read_behind off p c fs t =
     pick (some (λ f. either (eqb p 0) (may_name_memory f)) fs)
     (pick (some (λ f. has_second f.extension) fs) (read_second off p c fs t) (read_first off p c 0 t fs))
-    Nothing
+    (Err NotAnInstruction)
 
 abbrev pub read_opcode : ℕ → ℕ → List ℕ → Read
-read_opcode off p [] = More
+read_opcode off p [] = Err NotComplete
 read_opcode off p (c ∷ t) = read_behind off p c (starting_with c) t
 
 -- 26, 2E, 36, 3E
@@ -239,7 +247,7 @@ prefix b = either (eqb b 0x26) (either (eqb b 0x2E) (either (eqb b 0x36) (eqb b 
 
 -- at most one segment prefix, and what follows it read as the rest of the same bytes
 unfoldable pub read_plain : ℕ → List ℕ → Read
-read_plain off [] = More
+read_plain off [] = Err NotComplete
 read_plain off (b ∷ s) = pick (prefix b) (read_opcode off b s) (read_opcode off 0 (b ∷ s))
 
 -- ---- REPNE and REP: F2 or F3 before a string operation belongs to it, and else is an instruction of its own
@@ -256,10 +264,9 @@ repeats (b ∷ s) = both (is_repeat b) (begins_string s)
 
 -- what is read behind the repeat b. A string operation has no target, so its offset does not count
 abbrev pub behind_repeat : ℕ → Read → Read
-behind_repeat b (Whole m n) = Whole (repeated b m) (suc n)
-behind_repeat b Nothing = Nothing
-behind_repeat b More = More
+behind_repeat b (Ok (m, n)) = Ok (repeated b m, suc n)
+behind_repeat b (Err e) = Err e
 
 unfoldable pub reads : ℕ → List ℕ → Read
-reads off [] = More
+reads off [] = Err NotComplete
 reads off (b ∷ s) = pick (repeats (b ∷ s)) (behind_repeat b (read_plain off s)) (read_plain off (b ∷ s))

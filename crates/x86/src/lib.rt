@@ -2,7 +2,7 @@
 #![tactic(auto)]
 
 ghost use Rattle.std.specs.Prelude.{◌≡◌, ◌<◌};
-ghost use Rattle.x86.specs.Reading.{displacement_length, is_repeat};
+ghost use Rattle.x86.specs.Reading.{refusal_number, displacement_length, is_repeat};
 
 use mrc_compiler::ast::Segment;
 use mrc_compiler::encoder::OperandSize;
@@ -10,8 +10,8 @@ use mrc_compiler::operations::Operation;
 
 pub mod operands;
 
-// A used operand.
-#[derive(Clone, Copy)]
+// A used operand. None stands where the form has none: an Option would be no plainer, since each match takes all kinds at once.
+#[derive(Clone, Copy, Debug, PartialEq, Eq)]
 pub enum Operand {
     None,
 
@@ -38,7 +38,7 @@ pub enum Operand {
 }
 
 // Two records or byte strings are the same instruction where these are equal.
-#[derive(Clone, Copy)]
+#[derive(Clone, Copy, Debug, PartialEq, Eq)]
 pub struct Instruction {
     // The byte of REPNE or REP, F2 or F3, before a string operation; 0 where there is none.
     pub repeat: u8,
@@ -50,17 +50,26 @@ pub struct Instruction {
     pub second: Operand,
 }
 
-// What stands at the front of some bytes.
-#[derive(Clone, Copy)]
-pub enum Read {
-    // An instruction, with its length.
-    Whole(Instruction, usize),
-
+// Why no instruction stands at the front of some bytes.
+#[derive(Clone, Copy, Debug, PartialEq, Eq)]
+pub enum ReadError {
     // Refusal 10: no instruction begins so.
-    Nothing,
+    NotAnInstruction,
 
     // Refusal 11: an instruction that is not complete yet.
-    More,
+    NotComplete,
+}
+
+impl ReadError {
+    // Document 01's number of the refusal.
+    pub fn number(self) -> u8
+        ensures { result ≡ refusal_number self }
+    {
+        match self {
+            ReadError::NotAnInstruction => 10,
+            ReadError::NotComplete => 11,
+        }
+    }
 }
 
 // The bytes of displacement that a ModRM byte's mode and r/m ask for.
@@ -77,11 +86,9 @@ pub fn displacement_length(mode: u8, rm: u8) -> u8
 }
 
 // The bytes of REPNE and REP.
+#[tactic(auto, unfolding(crate::specs::Reading::is_repeat))]
 pub fn is_repeat(b: u8) -> bool
     ensures { result ≡ is_repeat b }
 {
-    if b == 0xF2 {
-        return true;
-    }
-    b == 0xF3
+    matches!(b, 0xF2 | 0xF3)
 }

@@ -23,8 +23,9 @@ pub const FAR: u8 = 6;
 // The constant 1 of a shift.
 pub const ONE: u8 = 7;
 
-// An operand without its values: its kind, and its register's number or base.
-#[derive(Clone, Copy)]
+// An operand without its values: its kind, and its register's number or base. The kind stays a number: is_possible and candidate_run
+// answer for every number, and an enum would exclude some.
+#[derive(Clone, Copy, Debug, PartialEq, Eq)]
 pub struct OperandType {
     pub kind: u8,
     pub number: u8,
@@ -74,14 +75,8 @@ pub fn displacement_in(oper: Operand) -> u16
     ensures { result ≡ displacement_in oper }
 {
     match oper {
-        Operand::None => 0,
-        Operand::Register(_) => 0,
-        Operand::SegmentRegister(_) => 0,
-        Operand::Memory(_, d, _) => d,
-        Operand::Immediate(_) => 0,
-        Operand::Near(_) => 0,
-        Operand::Far(_, _) => 0,
-        Operand::One => 0,
+        Operand::Memory(_, displacement, _) => displacement,
+        _ => 0,
     }
 }
 
@@ -90,14 +85,10 @@ pub fn value_in(oper: Operand) -> u16
     ensures { result ≡ value_in oper }
 {
     match oper {
-        Operand::None => 0,
-        Operand::Register(_) => 0,
-        Operand::SegmentRegister(_) => 0,
-        Operand::Memory(_, _, _) => 0,
-        Operand::Immediate(v) => v,
-        Operand::Near(t) => t,
-        Operand::Far(t, _) => t,
-        Operand::One => 0,
+        Operand::Immediate(value) => value,
+        Operand::Near(target) => target,
+        Operand::Far(target, _) => target,
+        _ => 0,
     }
 }
 
@@ -106,14 +97,8 @@ pub fn far_segment_in(oper: Operand) -> u16
     ensures { result ≡ far_segment_in oper }
 {
     match oper {
-        Operand::None => 0,
-        Operand::Register(_) => 0,
-        Operand::SegmentRegister(_) => 0,
-        Operand::Memory(_, _, _) => 0,
-        Operand::Immediate(_) => 0,
-        Operand::Near(_) => 0,
-        Operand::Far(_, s) => s,
-        Operand::One => 0,
+        Operand::Far(_, segment) => segment,
+        _ => 0,
     }
 }
 
@@ -121,9 +106,5 @@ pub fn far_segment_in(oper: Operand) -> u16
 pub fn size_number(size: OperandSize) -> u8
     ensures { result ≡ size_number size }
 {
-    match size {
-        OperandSize::Unspecified => 0,
-        OperandSize::Byte => 1,
-        OperandSize::Word => 2,
-    }
+    size as u8
 }

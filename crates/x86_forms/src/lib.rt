@@ -6,8 +6,8 @@ ghost use Rattle.x86_forms.specs.Slots.{about};
 
 use mrc_compiler::encoder::OperandSize;
 
-// Where an operand stands.
-#[derive(Clone, Copy)]
+// Where an operand stands. Nil is an entry of the column like the others: an Option round the slot would be no plainer, since each match takes all entries at once.
+#[derive(Clone, Copy, Debug, PartialEq, Eq)]
 pub enum Slot {
     // The r/m field of ModRM, a register or memory.
     Rm(OperandSize),
@@ -75,8 +75,8 @@ pub enum Slot {
     Nil,
 }
 
-// What the opcode column has beside the opcode.
-#[derive(Clone, Copy)]
+// What the opcode column has beside the opcode. None is an entry of the column like the others: an Option would be no plainer.
+#[derive(Clone, Copy, Debug, PartialEq, Eq)]
 pub enum Extension {
     None,
 
@@ -97,14 +97,14 @@ pub enum Extension {
 }
 
 // A form as the manual names it: the opcode as printed, and its extension.
-#[derive(Clone, Copy)]
+#[derive(Clone, Copy, Debug, PartialEq, Eq)]
 pub struct FormName {
     pub opcode: u8,
     pub extension: Extension,
 }
 
-// How a slot names memory.
-#[derive(Clone, Copy)]
+// How a slot names memory. Nowhere is one of the four ways, each with its length: an Option would be no plainer.
+#[derive(Clone, Copy, Debug, PartialEq, Eq)]
 pub enum Place {
     Nowhere,
     ByModRm,
@@ -113,7 +113,7 @@ pub enum Place {
 }
 
 // Which bytes a slot has.
-#[derive(Clone, Copy)]
+#[derive(Clone, Copy, Debug, PartialEq, Eq)]
 pub enum Restriction {
     Any,
 
@@ -129,7 +129,7 @@ pub enum Restriction {
 }
 
 // What is known of a slot before the bytes behind the opcode are read.
-#[derive(Clone, Copy)]
+#[derive(Clone, Copy, Debug, PartialEq, Eq)]
 pub struct About {
     // The width that it states.
     pub width: OperandSize,
@@ -140,8 +140,8 @@ pub struct About {
     pub restriction: Restriction,
 }
 
-// An extension, whatever its digit.
-#[derive(Clone, Copy)]
+// An extension, whatever its digit. Unused is the class of row 0: an Option would be no plainer, since each match takes all classes at once.
+#[derive(Clone, Copy, Debug, PartialEq, Eq)]
 pub enum Class {
     Unused,
     Plain,
@@ -153,7 +153,7 @@ pub enum Class {
 }
 
 // What the forms of a row have in common.
-#[derive(Clone, Copy)]
+#[derive(Clone, Copy, Debug, PartialEq, Eq)]
 pub struct Shape {
     pub class: Class,
     pub first: Slot,

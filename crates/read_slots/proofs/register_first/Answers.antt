@@ -1,12 +1,12 @@
-use mathlib.Core.Path.{sym, ◌∙◌}
+use Rattle.std.proofs.Common.{sym, ◌∙◌}
 use Rattle.read_slots.proofs.Laws.{register_first, register_behind, no_registers}
 use Rattle.read_slots.proofs.register_first.Goals as goal
 
-pub returns-in-Is : goal.returns-in-Is
-returns-in-Is c = sym (register_first _ _ c.requires _ _ _ (sym c.register_in.ensures ∙ c.in-Is.is))
+pub returns-in-Some-default : goal.returns-in-Some-default
+returns-in-Some-default c = c.instruction.ensures ∙ sym (register_first _ _ c.requires _ _ _ (sym c.register_in.ensures ∙ c.in-Some-default.is-0))
 
-pub returns-in-Is-register_in : goal.returns-in-Is-register_in
-returns-in-Is-register_in c = sym (register_behind _ _ c.requires _ _ _ (sym c.register_in.ensures ∙ c.in-None.is) (sym c.register_in-in-None.ensures ∙ c.in-Is-register_in.is))
+pub returns-in-None-Some : goal.returns-in-None-Some
+returns-in-None-Some c = c.instruction-in-None-Some.ensures ∙ sym (register_behind _ _ c.requires _ _ _ (sym c.register_in.ensures ∙ c.in-None-Some.is-0) (sym c.register_in-2.ensures ∙ c.in-None-Some.is-1))
 
-pub returns-in-None-register_in : goal.returns-in-None-register_in
-returns-in-None-register_in c = sym (no_registers _ _ c.requires _ _ (sym c.register_in.ensures ∙ c.in-None.is) (sym c.register_in-in-None.ensures ∙ c.in-None-register_in.is))
+pub returns-in-None-None : goal.returns-in-None-None
+returns-in-None-None c = c.instruction-in-None-None.ensures ∙ sym (no_registers _ _ c.requires _ _ (sym c.register_in.ensures ∙ c.in-None-None.is-0) (sym c.register_in-2.ensures ∙ c.in-None-None.is-1))

@@ -1,9 +1,9 @@
-use native.Mathlib.Omega.{arith}
-use Rattle.reader.proofs.Laws.{read_empty, read_on}
+use Rattle.std.proofs.Common.{sym, ◌∙◌, arith}
+use Rattle.reader.proofs.Laws.{none_there, some_there, read_empty, read_on}
 use Rattle.reader.proofs.read_plain.Goals as goal
 
-pub returns-then-bytes-gt0 : goal.returns-then-bytes-gt0
-returns-then-bytes-gt0 c = read_on c.args.offset c.args.bytes.now _ _ _ c.if-bytes-gt0.true (λ i. omega (arith, c.shared_slice_known-then-bytes-gt0-1.given i)) c.opcode_start-start.ensures.value c.prefix_of.ensures c.read_opcode.ensures
+pub returns-then-is_empty : goal.returns-then-is_empty
+returns-then-is_empty c = read_empty c.args.offset c.args.bytes.now (none_there _ (sym c.is_empty.ensures ∙ c.if-is_empty.true))
 
 pub returns : goal.returns
-returns c = read_empty c.args.offset c.args.bytes.now c.if-bytes-gt0.false
+returns c = read_on c.args.offset c.args.bytes.now _ _ _ (some_there _ (sym c.is_empty.ensures ∙ c.if-is_empty.false)) (λ i. omega (arith, c.type_inv.bytes i)) c.opcode_start.ensures.value c.prefix_of.ensures c.read_opcode.ensures

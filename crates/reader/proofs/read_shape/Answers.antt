@@ -19,7 +19,7 @@ found_at-requires c = search rules
 
 pub read_form-requires : goal.read_form-requires
 unfolding decoded_shape read_shape found_at
-read_form-requires c = (settles c.args.c c.args.x _ (search rules) (rw c.requires at (rw (c.about-a.ensures, c.about-b.ensures) at (sym c.found_at.ensures ∙ c.in-Some.is))), rw c.requires (tests c.args.c c.args.x _ (search rules) (rw c.requires at (rw (c.about-a.ensures, c.about-b.ensures) at (sym c.found_at.ensures ∙ c.in-Some.is)))), c.about-a.ensures, c.about-b.ensures)
+read_form-requires c = (settles c.args.head.opcode c.args.head.second _ (search rules) (rw c.requires at (rw (c.about-a.ensures, c.about-b.ensures) at (sym c.found_at.ensures ∙ c.in-Some.is))), rw c.requires (tests c.args.head.opcode c.args.head.second _ (search rules) (rw c.requires at (rw (c.about-a.ensures, c.about-b.ensures) at (sym c.found_at.ensures ∙ c.in-Some.is)))), c.about-a.ensures, c.about-b.ensures)
 
 pub returns-in-None : goal.returns-in-None
 unfolding decoded_shape read_shape found_at

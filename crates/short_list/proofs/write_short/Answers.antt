@@ -4,7 +4,6 @@ use Rattle.short_list.proofs.Laws.{count_length, count_holds}
 use Rattle.short_list.proofs.Counts.{lines_are}
 use Rattle.short_list.proofs.Texts.{holds, holds_not, behind_in, whole_text}
 use Rattle.short_list.specs.Text.{written, slice_after}
-use borrow.Author.Rules.{rules}
 use Rattle.short_list.proofs.write_short.Goals as goal
 
 pub returns-then-out-lt-SHORT_LENGTH : goal.returns-then-out-lt-SHORT_LENGTH
@@ -17,27 +16,19 @@ pub write_lines-lines-requires : goal.write_lines-lines-requires
 unfolding written slice_after
 write_lines-lines-requires c = omega (arith, lines_are)
 
-pub count_line-last-requires : goal.count_line-last-requires
+pub slice_bounds-write_line-count : goal.slice_bounds-write_line-count
 unfolding written slice_after
-count_line-last-requires c = search rules
-
-pub slice_bounds-part-count : goal.slice_bounds-part-count
-unfolding written slice_after
-slice_bounds-part-count c =
+slice_bounds-write_line-count c =
     let w = c.write_lines-lines in
     let b = c in
     (behind_in c.args.out.now (omega (arith, c.if-out-lt-SHORT_LENGTH.false)) _ _ _ w.ensures.count_value w.ensures.end_value w.ensures.out_after).0
 
-pub slice_bounds-part-start : goal.slice_bounds-part-start
+pub slice_bounds-write_line-start : goal.slice_bounds-write_line-start
 unfolding written slice_after
-slice_bounds-part-start c =
+slice_bounds-write_line-start c =
     let w = c.write_lines-lines in
     let b = c in
     (behind_in c.args.out.now (omega (arith, c.if-out-lt-SHORT_LENGTH.false)) _ _ _ w.ensures.count_value w.ensures.end_value w.ensures.out_after).0
-
-pub slice_bounds-part-end : goal.slice_bounds-part-end
-unfolding written slice_after
-slice_bounds-part-end c = search rules
 
 pub write_line-m-requires : goal.write_line-m-requires
 unfolding written slice_after
