@@ -1,21 +1,17 @@
 -- Laws of the bytes of a candidate.
 -- Assumes nothing.
-use Rattle.std.proofs.Common.{◌≡◌, ℕ, ◌+◌, ◌%◌, ◌<◌, ◌≤◌, arith}
+use Rattle.std.proofs.Common.{◌≡◌, ℕ, ◌%◌, ◌<◌, arith}
 use Rattle.encode_spec.specs.Layout.{prefix_bytes}
 use Rattle.encode_run.specs.declared.ByteRun.{ByteRun}
 use Rattle.encode_run.specs.Run.{empty_run, pushed, appended}
 use Rattle.encode_run.proofs.Laws.{appended-append}
 use Rattle.list_spec.specs.declared.Start.{Start}
 use Rattle.list_spec.specs.declared.Parts.{Parts}
-use Rattle.list_spec.specs.Candidates.{byte_of, second_bytes, distance, tail_bytes, string_of}
+use Rattle.list_spec.specs.Candidates.{byte_of, second_bytes, tail_bytes, string_of}
 
 -- a byte is itself modulo 256
 pub same_byte : (x : ℕ) → x < 256 → x % 256 ≡ x
 same_byte x h = omega arith
-
--- the distance, from the wrapped sum and difference
-pub wrapped : (t off n r : ℕ) → t < 65536 → off < 65536 → n ≤ 3 → r < 65536 → (r + (off + n) % 65536) % 65536 ≡ t → r ≡ distance t off n
-wrapped t off n r ht ho hn hr e = omega arith
 
 -- prefix, opcode, second byte and tail, one after the other
 pub string_of_lem : {r1 r2 r3 r4 r5 : ByteRun} (off p : ℕ) (s : Start) (q : Parts) → r1 ≡ empty_run

@@ -1,6 +1,8 @@
 -- No start of an instruction is lower than that of a form whose first and second byte pass the test. Computed over all of them, whatever the offset, the prefix and the
 -- bytes behind.
 -- Assumes nothing.
+use Rattle.x86.specs.Operands.{in_memory as a_memory}
+use Rattle.std.specs.Prelude.{Option, Some, None}
 use mathlib.Core.Path.{◌≡◌, sym, subst}
 use Prim.Native.Nat.{ℕ, ◌+◌, ◌/◌, ◌%◌, ◌<◌}
 use native.Mathlib.Omega.{arith}
@@ -11,7 +13,6 @@ use Rattle.mrc_compiler.specs.Choose.{pick, both, either, isnt}
 use Rattle.mrc_compiler.specs.Operations.{number_of}
 use Rattle.x86.specs.declared.Instruction.{Instruction}
 use Rattle.x86.specs.Instructions.{canonical}
-use Rattle.x86.specs.Operands.{in_memory as a_memory}
 use Rattle.x86.specs.declared.operands.OperandType.{OperandType}
 use Rattle.x86.specs.Forms.{Form, forms}
 use Rattle.x86.specs.Reading.{fits, mode, low, displacement_length, some, starting_with, fitting, has_second, memory_length, names_memory, prefix, instruction_of}
@@ -32,19 +33,19 @@ use Rattle.list_spec.proofs.Written.{Fits, with_second_byte, without_one}
 use Rattle.list_first.specs.First.{has_modrm, least_by_modrm, least_alone, in_stack, own_prefix}
 
 -- ---- lengths
-abbrev pub second_length : Second → ℕ
-second_length X.None = 0
-second_length (X.ModRm x) = 1 + displacement_length (mode x) (low x)
-second_length (X.Fixed x) = 1
+abbrev pub second_length : Option Second → ℕ
+second_length None = 0
+second_length (Some (X.ModRm x)) = 1 + displacement_length (mode x) (low x)
+second_length (Some (X.Fixed x)) = 1
 
-abbrev pub tail_length : Tail → ℕ
-tail_length L.None = 0
-tail_length L.Byte = 1
-tail_length L.Word = 2
-tail_length L.Near8 = 1
-tail_length L.Near16 = 2
-tail_length L.Far = 4
-tail_length L.Address = 2
+abbrev pub tail_length : Option Tail → ℕ
+tail_length None = 0
+tail_length (Some L.Byte) = 1
+tail_length (Some L.Word) = 2
+tail_length (Some L.Near8) = 1
+tail_length (Some L.Near16) = 2
+tail_length (Some L.Far) = 4
+tail_length (Some L.Address) = 2
 
 abbrev pub start_length : Start → ℕ
 start_length s = 1 + (second_length s.second + tail_length s.tail)

@@ -1,5 +1,6 @@
 -- A string whose first bytes tell that it is the first of its instruction's listing is: every string that reads as the instruction is it, or comes behind it.
 -- Assumes nothing.
+use Rattle.std.specs.Prelude.{Ok, Option, Some, None}
 use mathlib.Core.Path.{◌≡◌, refl, sym, ◌∙◌, ap, subst}
 use Prim.Native.Nat.{ℕ, suc, ◌+◌, ◌*◌, ◌/◌, ◌%◌, ◌≤◌, ◌<◌}
 use native.Mathlib.Omega.{arith}
@@ -11,7 +12,6 @@ use lib.ListN.{length, length-append, get_or}
 use borrow.Author.Tests.{lt-ltb, le-ltb, eqb-true, eqb-false, ltb-true, ltb-false, leb-true, leb-false}
 use Rattle.mrc_compiler.specs.Choose.{pick, both, either, isnt}
 use Rattle.x86.specs.declared.Instruction.{Instruction}
-use Rattle.x86.specs.declared.Read.TheVariants.{Whole}
 use Rattle.x86.specs.Reading.{mode, low, displacement_length, displacement_at, memory_length, names_memory, prefix, is_repeat, read_opcode, read_plain}
 use Rattle.x86.specs.Listing.{Bytes, ReadsAs, First, Before}
 use Rattle.x86.proofs.Tests.{is_true, same, same_is, both_left, both_right, up_to, up_to_at}
@@ -28,7 +28,7 @@ use Rattle.list_spec.specs.Operands.{prefix_of, displacement_of}
 use Rattle.list_spec.specs.Parts.{is_short, parts_of}
 use Rattle.list_spec.specs.Possible.{start_fits, prefix_fits, possible}
 use Rattle.list_spec.specs.Starts.{start_of}
-use Rattle.list_spec.specs.Candidates.{displacement_bytes, second_bytes, tail_bytes, string_of, candidate_of, candidate}
+use Rattle.list_spec.specs.Candidates.{displacement_bytes, second_bytes, tail_bytes, string_of, candidate_of}
 use Rattle.list_spec.proofs.ByForm.{start_by, same_start, start_eq}
 use Rattle.list_spec.proofs.Choices.{either_parts}
 use Rattle.list_spec.proofs.Possible.{start_fits_lem}
@@ -56,19 +56,19 @@ few_bytes x = go (eqb (mode x) 0) (eqb (low x) 6) (eqb (mode x) 1) (eqb (mode x)
     go false b false true = omega arith
     go false b false false = omega arith
 
-second_length_lem : (x : Second) (d : ℕ) → length (second_bytes x d) ≡ second_length x
-second_length_lem X.None d = refl
-second_length_lem (X.ModRm x) d = omega (arith, displacement_length_lem (displacement_length (mode x) (low x)) d (few_bytes x))
-second_length_lem (X.Fixed x) d = refl
+second_length_lem : (x : Option Second) (d : ℕ) → length (second_bytes x d) ≡ second_length x
+second_length_lem None d = refl
+second_length_lem (Some (X.ModRm x)) d = omega (arith, displacement_length_lem (displacement_length (mode x) (low x)) d (few_bytes x))
+second_length_lem (Some (X.Fixed x)) d = refl
 
-tail_length_lem : (t : Tail) (off d v s : ℕ) → length (tail_bytes t off d v s) ≡ tail_length t
-tail_length_lem L.None off d v s = refl
-tail_length_lem L.Byte off d v s = refl
-tail_length_lem L.Word off d v s = refl
-tail_length_lem L.Near8 off d v s = refl
-tail_length_lem L.Near16 off d v s = refl
-tail_length_lem L.Far off d v s = refl
-tail_length_lem L.Address off d v s = refl
+tail_length_lem : (t : Option Tail) (off d v s : ℕ) → length (tail_bytes t off d v s) ≡ tail_length t
+tail_length_lem None off d v s = refl
+tail_length_lem (Some L.Byte) off d v s = refl
+tail_length_lem (Some L.Word) off d v s = refl
+tail_length_lem (Some L.Near8) off d v s = refl
+tail_length_lem (Some L.Near16) off d v s = refl
+tail_length_lem (Some L.Far) off d v s = refl
+tail_length_lem (Some L.Address) off d v s = refl
 
 string_length : (off p : ℕ) (s : Start) (q : Parts) → length (string_of off p s q) ≡ length (prefix_bytes p) + start_length s
 unfolding string_of
@@ -358,11 +358,11 @@ prefix_same : (b : ℕ) → b < 256 → prefix b ≡ is_prefix b
 prefix_same b h = same_is (prefix b) (is_prefix b) (up_to_at 256 (λ b. same (prefix b) (is_prefix b)) all_prefixes b h)
 
 -- without a repeat
-plain_read : (off : ℕ) (t : List ℕ) (m : Instruction) → m.repeat ≡ 0 → ReadsAs off m t → read_plain off t ≡ Whole m (length t)
+plain_read : (off : ℕ) (t : List ℕ) (m : Instruction) → m.repeat ≡ 0 → ReadsAs off m t → read_plain off t ≡ Ok (m, length t)
 plain_read off t m z e = sym (plain off t (repeats_by off t m (length t) e ∙ rw z refl)) ∙ e
 
 -- nor with a prefix
-unprefixed : (off : ℕ) (t : List ℕ) (m : Instruction) → Bytes t → prefix (get_or t 0 0) ≡ false → read_plain off t ≡ Whole m (length t) → Parsed off 0 t m (length t)
+unprefixed : (off : ℕ) (t : List ℕ) (m : Instruction) → Bytes t → prefix (get_or t 0 0) ≡ false → read_plain off t ≡ Ok (m, length t) → Parsed off 0 t m (length t)
 unfolding read_plain
 unprefixed off [] m bt q e = absurd (more_not_whole e)
 unprefixed off (b ∷ t) m bt q e = parsed off 0 (b ∷ t) bt (rw q at e)
@@ -423,7 +423,7 @@ module _ (off : ℕ) (m : Instruction) (h : off < 65536) (t : List ℕ) (bt : By
       subst (λ (u : List ℕ). (string_of off p b (parts_of m) ≡ u) ⊎ Before (string_of off p b (parts_of m)) u)
       (sym (y.1 ∙ ap (λ (p : ℕ). string_of off p st (parts_of m)) pre)) (same_prefix_order off p b st (parts_of m) p_some n)) w.is)
 
-plain_before : (off : ℕ) (s : List ℕ) (m : Instruction) → off < 65536 → Bytes s → read_plain off s ≡ Whole m (length s) → T (is_first_of s)
+plain_before : (off : ℕ) (s : List ℕ) (m : Instruction) → off < 65536 → Bytes s → read_plain off s ≡ Ok (m, length s) → T (is_first_of s)
     → (t : List ℕ) → Bytes t → ReadsAs off m t → (s ≡ t) ⊎ Before s t
 unfolding read_plain is_first
 plain_before off [] m h bs e first t bt et = absurd (more_not_whole e)
@@ -435,7 +435,7 @@ plain_before off (b ∷ s) m h bs e first t bt et = go (prefix b) refl e (subst 
     own : Bool
     own = isnt (eqb b (own_prefix (get_or s 0 0) (get_or s 1 0)))
 
-    go : (q : Bool) → prefix b ≡ q → pick q (read_opcode off b s) (read_opcode off 0 (b ∷ s)) ≡ Whole m (length (b ∷ s))
+    go : (q : Bool) → prefix b ≡ q → pick q (read_opcode off b s) (read_opcode off 0 (b ∷ s)) ≡ Ok (m, length (b ∷ s))
         → T (pick q (both own (first_of s)) (first_of (b ∷ s))) → (b ∷ s ≡ t) ⊎ Before (b ∷ s) t
     go true q e f = prefixed_behind off m h t bt et z b s (bs 0) q (parsed off b s (λ i. bs (suc i)) e) (both_right own (first_of s) f) (both_left own (first_of s) f)
     go false q e f = alone_behind off m h t bt et z (b ∷ s) (parsed off 0 (b ∷ s) bs e) f

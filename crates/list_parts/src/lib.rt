@@ -2,7 +2,7 @@
 #![tactic(auto)]
 
 ghost use Rattle.std.specs.Prelude.{◌≡◌};
-ghost use Rattle.list_spec.specs.Operands.{prefix_in, prefix_of, displacement_of, value_of, far_segment_of};
+ghost use Rattle.list_spec.specs.Operands.{prefix_in};
 ghost use Rattle.list_spec.specs.Parts.{is_short, parts_of};
 
 use list_spec::Parts;
@@ -15,48 +15,9 @@ pub fn prefix_in(oper: Operand) -> u8
     ensures { result ≡ prefix_in oper }
 {
     match oper {
-        Operand::None => 0,
-        Operand::Register(_) => 0,
-        Operand::SegmentRegister(_) => 0,
-        Operand::Memory(_, _, s) => segment_prefix_for(s),
-        Operand::Immediate(_) => 0,
-        Operand::Near(_) => 0,
-        Operand::Far(_, _) => 0,
-        Operand::One => 0,
+        Operand::Memory(_, _, segment) => segment_prefix_for(segment),
+        _ => 0,
     }
-}
-
-// The sum is the number of the operand that has one.
-fn prefix_of(insn: Instruction) -> u8
-    ensures { result ≡ prefix_of insn }
-{
-    let a = insn.first;
-    let b = insn.second;
-    std::num::wrapping_add_u8(prefix_in(a), prefix_in(b))
-}
-
-fn displacement_of(insn: Instruction) -> u16
-    ensures { result ≡ displacement_of insn }
-{
-    let a = insn.first;
-    let b = insn.second;
-    std::num::wrapping_add_u16(displacement_in(a), displacement_in(b))
-}
-
-fn value_of(insn: Instruction) -> u16
-    ensures { result ≡ value_of insn }
-{
-    let a = insn.first;
-    let b = insn.second;
-    std::num::wrapping_add_u16(value_in(a), value_in(b))
-}
-
-fn far_segment_of(insn: Instruction) -> u16
-    ensures { result ≡ far_segment_of insn }
-{
-    let a = insn.first;
-    let b = insn.second;
-    std::num::wrapping_add_u16(far_segment_in(a), far_segment_in(b))
 }
 
 // Is a displacement -128 to 127?
@@ -66,28 +27,31 @@ fn is_short(displacement: u16) -> bool
     displacement < 128 || 65408 <= displacement
 }
 
+// Of the two operands one at most has a prefix, a displacement, a value or a far segment: the sum is that operand's.
 pub fn parts_of(insn: Instruction) -> Parts
     ensures { result ≡ parts_of insn }
 {
-    let operation = insn.operation;
+    let Instruction {
+        repeat,
+        operation,
+        width,
+        first,
+        second,
+    } = insn;
     let grouped = encode_groups::group_of(operation);
-    let group = grouped.group;
-    let width = insn.width;
-    let first = insn.first;
-    let second = insn.second;
-    let displacement = displacement_of(insn);
+    let displacement = displacement_in(first).wrapping_add(displacement_in(second));
     Parts {
-        repeat: insn.repeat,
-        group,
+        repeat,
+        group: grouped.group,
         base: grouped.base,
         width,
         first: type_of(first),
         second: type_of(second),
-        prefix: prefix_of(insn),
+        prefix: prefix_in(first).wrapping_add(prefix_in(second)),
         displacement,
         zero: displacement == 0,
         short: is_short(displacement),
-        value: value_of(insn),
-        segment: far_segment_of(insn),
+        value: value_in(first).wrapping_add(value_in(second)),
+        segment: far_segment_in(first).wrapping_add(far_segment_in(second)),
     }
 }

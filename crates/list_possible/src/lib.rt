@@ -1,103 +1,60 @@
 // Which candidates can read as an instruction, by its operands' kinds and its displacement.
-#![tactic(auto)]
+#![tactic(auto, unfolding(list_spec::specs::Possible::is_accumulator, list_spec::specs::Possible::is_address, list_spec::specs::Possible::mode_for, list_spec::specs::Possible::mode_fits, list_spec::specs::Possible::with_alternate, list_spec::specs::Possible::immediate_fits, list_spec::specs::Possible::arithmetic_fits, list_spec::specs::Possible::move_alternate, list_spec::specs::Possible::exchange_fits, list_spec::specs::Possible::encoding_fits, list_spec::specs::Possible::start_fits, list_spec::specs::Possible::possible))]
 
 ghost use Rattle.std.specs.Prelude.{◌≡◌};
-ghost use Rattle.list_spec.specs.Possible.{is_a, is_accumulator, is_address, is_word, is_word_register, is_ax, mode_for, mode_fits, modeless, with_alternate, by_accumulator, immediate_fits, with_register, arithmetic_fits, by_address, move_alternate, test_alternate, registers_fit, exchange_fits, encoding_fits, start_fits, prefix_fits, possible};
+ghost use Rattle.list_spec.specs.Encodings.{encoding_number};
+ghost use Rattle.list_spec.specs.Possible.{is_accumulator, is_address, is_word, mode_for, mode_fits, modeless, with_alternate, immediate_fits, with_register, arithmetic_fits, by_address, move_alternate, test_alternate, exchange_fits, encoding_fits, possible};
 
 use encode_groups::Group;
-use list_spec::Parts;
+use list_spec::{Candidate, Encoding, Parts};
 use mrc_compiler::encoder::OperandSize;
 use x86::operands::{IMMEDIATE, MEMORY, NEAR, OperandType, REGISTER, SEGMENT_REGISTER};
-
-// The first of an instruction's two encodings.
-const PRIMARY: u8 = 0;
-
-fn is_a(kind: u8, oper: OperandType) -> bool
-    ensures { result ≡ is_a kind oper }
-{
-    oper.kind == kind
-}
 
 // AL or AX.
 fn is_accumulator(oper: OperandType) -> bool
     ensures { result ≡ is_accumulator oper }
 {
-    if is_a(REGISTER, oper) {
-        return oper.number == 0;
-    }
-    false
+    oper.kind == REGISTER && oper.number == 0
 }
 
 // An address without base.
 fn is_address(oper: OperandType) -> bool
     ensures { result ≡ is_address oper }
 {
-    if is_a(MEMORY, oper) {
-        return oper.number == 8;
-    }
-    false
+    oper.kind == MEMORY && oper.number == 8
 }
 
 fn is_word(width: OperandSize) -> bool
     ensures { result ≡ is_word width }
 {
-    match width {
-        OperandSize::Unspecified => false,
-        OperandSize::Byte => false,
-        OperandSize::Word => true,
-    }
-}
-
-// A register of 16 bits.
-fn is_word_register(width: OperandSize, oper: OperandType) -> bool
-    ensures { result ≡ is_word_register width oper }
-{
-    if is_a(REGISTER, oper) {
-        return is_word(width);
-    }
-    false
-}
-
-// AX.
-fn is_ax(width: OperandSize, oper: OperandType) -> bool
-    ensures { result ≡ is_ax width oper }
-{
-    if is_accumulator(oper) {
-        return is_word(width);
-    }
-    false
+    matches!(width, OperandSize::Word)
 }
 
 // ---- the mode
 
-// Of memory by its number, where its displacement is 0 or not, short or not.
-fn mode_for(number: u8, zero: bool, short: bool, mode: u8) -> bool
-    ensures { result ≡ mode_for number zero short mode }
+// Of memory by its number.
+fn mode_for(number: u8, parts: Parts, mode: u8) -> bool
+    ensures { result ≡ mode_for number parts.zero parts.short mode }
 {
     if number == 8 {
         return mode == 0;
     }
-    if mode == 0 {
-        if number == 6 {
-            return false;
-        }
-        return zero;
+    match mode {
+        0 => number != 6 && parts.zero,
+        1 => parts.short,
+        _ => true,
     }
-    if mode == 1 {
-        return short;
-    }
-    true
 }
 
 // Of the operand in memory, if there is one.
-fn mode_fits(a: OperandType, b: OperandType, zero: bool, short: bool, mode: u8) -> bool
-    ensures { result ≡ mode_fits a b zero short mode }
+fn mode_fits(parts: Parts, mode: u8) -> bool
+    ensures { result ≡ mode_fits parts.first parts.second parts.zero parts.short mode }
 {
-    if is_a(MEMORY, a) {
-        return mode_for(a.number, zero, short, mode);
+    if parts.first.kind == MEMORY {
+        return mode_for(parts.first.number, parts, mode);
     }
-    if is_a(MEMORY, b) {
-        return mode_for(b.number, zero, short, mode);
+    if parts.second.kind == MEMORY {
+        return mode_for(parts.second.number, parts, mode);
     }
     true
 }
@@ -105,222 +62,143 @@ fn mode_fits(a: OperandType, b: OperandType, zero: bool, short: bool, mode: u8) 
 // ---- the encoding
 
 // Without memory mode 0 stands for all.
-fn is_modeless(a: OperandType, b: OperandType, mode: u8) -> bool
-    ensures { result ≡ modeless a b mode }
+fn is_modeless(parts: Parts, mode: u8) -> bool
+    ensures { result ≡ modeless parts.first parts.second mode }
 {
-    if is_a(MEMORY, a) {
-        return true;
-    }
-    if is_a(MEMORY, b) {
-        return true;
-    }
-    mode == 0
+    parts.first.kind == MEMORY || parts.second.kind == MEMORY || mode == 0
 }
 
-// The primary encoding, and the alternate one where it may be.
-fn with_alternate(may: bool, a: OperandType, b: OperandType, encoding: u8, mode: u8) -> bool
-    ensures { result ≡ with_alternate may a b encoding mode }
+// The primary encoding, and the alternate one where it may be: a fact of the operands, for which a closure would be no plainer.
+fn with_alternate(may: bool, parts: Parts, candidate: Candidate) -> bool
+    ensures { result ≡ with_alternate may parts.first parts.second (encoding_number candidate.encoding) candidate.mode }
 {
-    if encoding == PRIMARY {
-        return is_modeless(a, b, mode);
+    match candidate.encoding {
+        Encoding::Primary => is_modeless(parts, candidate.mode),
+        Encoding::Alternate => may && is_modeless(parts, candidate.mode),
     }
-    if may {
-        return is_modeless(a, b, mode);
-    }
-    false
 }
 
-// Modes 0 and 1 are two starts: the accumulator's, and that of any register.
-fn by_accumulator(accumulator: bool, mode: u8) -> bool
-    ensures { result ≡ by_accumulator accumulator mode }
+// Arithmetic with an immediate. Of a register's modes 0 and 1 are two starts: the accumulator's, and that of any register.
+fn immediate_fits(parts: Parts, candidate: Candidate) -> bool
+    ensures { result ≡ immediate_fits parts.width parts.first parts.second (encoding_number candidate.encoding) candidate.mode }
 {
-    if mode == 0 {
-        return accumulator;
+    if parts.first.kind == REGISTER && matches!(candidate.encoding, Encoding::Primary) {
+        return match candidate.mode {
+            0 => is_accumulator(parts.first),
+            mode => mode == 1,
+        };
     }
-    mode == 1
-}
-
-// Arithmetic with an immediate.
-fn immediate_fits(
-    width: OperandSize,
-    a: OperandType,
-    b: OperandType,
-    encoding: u8,
-    mode: u8,
-) -> bool
-    ensures { result ≡ immediate_fits width a b encoding mode }
-{
-    if is_a(REGISTER, a) {
-        if encoding == PRIMARY {
-            return by_accumulator(is_accumulator(a), mode);
-        }
-        return with_alternate(is_word(width), a, b, encoding, mode);
-    }
-    with_alternate(is_word(width), a, b, encoding, mode)
+    with_alternate(is_word(parts.width), parts, candidate)
 }
 
 // With a register in reg.
-fn with_register(reg: OperandType, a: OperandType, b: OperandType, mode: u8) -> bool
-    ensures { result ≡ with_register reg a b mode }
+fn with_register(reg: OperandType, parts: Parts, mode: u8) -> bool
+    ensures { result ≡ with_register reg parts.first parts.second mode }
 {
-    if is_a(REGISTER, reg) {
-        return is_modeless(a, b, mode);
-    }
-    false
+    reg.kind == REGISTER && is_modeless(parts, mode)
 }
 
-fn arithmetic_fits(
-    width: OperandSize,
-    a: OperandType,
-    b: OperandType,
-    encoding: u8,
-    mode: u8,
-) -> bool
-    ensures { result ≡ arithmetic_fits width a b encoding mode }
+fn arithmetic_fits(parts: Parts, candidate: Candidate) -> bool
+    ensures { result ≡ arithmetic_fits parts.width parts.first parts.second (encoding_number candidate.encoding) candidate.mode }
 {
-    if is_a(IMMEDIATE, b) {
-        return immediate_fits(width, a, b, encoding, mode);
+    if parts.second.kind == IMMEDIATE {
+        return immediate_fits(parts, candidate);
     }
-    if encoding == PRIMARY {
-        return with_register(b, a, b, mode);
+    match candidate.encoding {
+        Encoding::Primary => with_register(parts.second, parts, candidate.mode),
+        Encoding::Alternate => with_register(parts.first, parts, candidate.mode),
     }
-    with_register(a, a, b, mode)
 }
 
 // An address without base and the accumulator.
 fn by_address(memory: OperandType, other: OperandType) -> bool
     ensures { result ≡ by_address memory other }
 {
-    if is_address(memory) {
-        return is_accumulator(other);
-    }
-    false
+    is_address(memory) && is_accumulator(other)
 }
 
 // May MOV have its alternate encoding?
 fn move_alternate(a: OperandType, b: OperandType) -> bool
     ensures { result ≡ move_alternate a b }
 {
-    if is_a(MEMORY, a) {
+    if a.kind == MEMORY {
         return by_address(a, b);
     }
-    if is_a(MEMORY, b) {
+    if b.kind == MEMORY {
         return by_address(b, a);
     }
-    if is_a(REGISTER, a) {
-        return !is_a(SEGMENT_REGISTER, b);
-    }
-    false
+    a.kind == REGISTER && b.kind != SEGMENT_REGISTER
 }
 
 // May TEST have its alternate encoding?
 fn test_alternate(a: OperandType, b: OperandType) -> bool
     ensures { result ≡ test_alternate a b }
 {
-    if is_a(IMMEDIATE, b) {
-        return is_accumulator(a);
-    }
-    false
+    b.kind == IMMEDIATE && is_accumulator(a)
 }
 
-// XCHG of two registers.
-fn registers_fit(width: OperandSize, a: OperandType, mode: u8) -> bool
-    ensures { result ≡ registers_fit width a mode }
+// Of two registers modes 0 and 1 are two starts: that of AX, and that of any register.
+fn exchange_fits(parts: Parts, candidate: Candidate) -> bool
+    ensures { result ≡ exchange_fits parts.width parts.first parts.second (encoding_number candidate.encoding) candidate.mode }
 {
-    if is_a(REGISTER, a) {
-        return by_accumulator(is_ax(width, a), mode);
+    if parts.second.kind != REGISTER {
+        return with_alternate(false, parts, candidate);
     }
-    false
+    match (candidate.encoding, candidate.mode) {
+        (Encoding::Alternate, mode) => is_modeless(parts, mode),
+        (Encoding::Primary, 0) => is_accumulator(parts.first) && is_word(parts.width),
+        (Encoding::Primary, mode) => parts.first.kind == REGISTER && mode == 1,
+    }
 }
 
-fn exchange_fits(width: OperandSize, a: OperandType, b: OperandType, encoding: u8, mode: u8) -> bool
-    ensures { result ≡ exchange_fits width a b encoding mode }
+// By encoding and mode.
+fn encoding_fits(parts: Parts, candidate: Candidate) -> bool
+    ensures { result ≡ encoding_fits parts.group parts.base parts.width parts.first parts.second (encoding_number candidate.encoding) candidate.mode }
 {
-    if is_a(REGISTER, b) {
-        if encoding == PRIMARY {
-            return registers_fit(width, a, mode);
+    let Parts { first, second, .. } = parts;
+    match parts.group {
+        Group::Arithmetic => arithmetic_fits(parts, candidate),
+        Group::Xchg => exchange_fits(parts, candidate),
+        Group::Mov => with_alternate(move_alternate(first, second), parts, candidate),
+        Group::Test => with_alternate(test_alternate(first, second), parts, candidate),
+        Group::IncDec => {
+            let is_register = first.kind == REGISTER;
+            with_alternate(is_register && is_word(parts.width), parts, candidate)
         }
-        return is_modeless(a, b, mode);
-    }
-    with_alternate(false, a, b, encoding, mode)
-}
-
-// By encoding and mode, of a group with its base.
-fn encoding_fits(
-    group: Group,
-    base: u8,
-    width: OperandSize,
-    a: OperandType,
-    b: OperandType,
-    encoding: u8,
-    mode: u8,
-) -> bool
-    ensures { result ≡ encoding_fits group base width a b encoding mode }
-{
-    match group {
-        Group::Arithmetic => arithmetic_fits(width, a, b, encoding, mode),
-        Group::Unary => with_alternate(false, a, b, encoding, mode),
-        Group::Mov => with_alternate(move_alternate(a, b), a, b, encoding, mode),
-        Group::Test => with_alternate(test_alternate(a, b), a, b, encoding, mode),
-        Group::Xchg => exchange_fits(width, a, b, encoding, mode),
-        Group::IncDec => with_alternate(is_word_register(width, a), a, b, encoding, mode),
-        Group::Push => with_alternate(!is_a(MEMORY, a), a, b, encoding, mode),
-        Group::Pop => with_alternate(!is_a(MEMORY, a), a, b, encoding, mode),
-        Group::Ret => with_alternate(false, a, b, encoding, mode),
-        Group::Lea => with_alternate(false, a, b, encoding, mode),
-        Group::LesLds => with_alternate(false, a, b, encoding, mode),
-        Group::Shift => with_alternate(false, a, b, encoding, mode),
-        Group::Call => with_alternate(false, a, b, encoding, mode),
-        Group::Jmp => with_alternate(is_a(NEAR, a), a, b, encoding, mode),
-        Group::Jcc => with_alternate(false, a, b, encoding, mode),
-        Group::Loopc => with_alternate(false, a, b, encoding, mode),
-        Group::NoOperands => with_alternate(base == 0x90, a, b, encoding, mode),
-        Group::Prefixes => with_alternate(false, a, b, encoding, mode),
-        Group::Int => with_alternate(false, a, b, encoding, mode),
-        Group::Aam => with_alternate(false, a, b, encoding, mode),
-        Group::Aad => with_alternate(false, a, b, encoding, mode),
-        Group::Xlat => with_alternate(false, a, b, encoding, mode),
-        Group::In => with_alternate(false, a, b, encoding, mode),
-        Group::Out => with_alternate(false, a, b, encoding, mode),
-        Group::Unsupported => with_alternate(false, a, b, encoding, mode),
+        Group::Push | Group::Pop => with_alternate(first.kind != MEMORY, parts, candidate),
+        Group::Jmp => with_alternate(first.kind == NEAR, parts, candidate),
+        Group::NoOperands => with_alternate(parts.base == 0x90, parts, candidate),
+        Group::Unary
+        | Group::Ret
+        | Group::Lea
+        | Group::LesLds
+        | Group::Shift
+        | Group::Call
+        | Group::Jcc
+        | Group::Loopc
+        | Group::Prefixes
+        | Group::Int
+        | Group::Aam
+        | Group::Aad
+        | Group::Xlat
+        | Group::In
+        | Group::Out
+        | Group::Unsupported => with_alternate(false, parts, candidate),
     }
 }
 
 // ---- the candidate
 
-// The start by encoding and mode.
-fn start_fits(parts: Parts, encoding: u8, mode: u8) -> bool
-    ensures { result ≡ start_fits parts parts.zero parts.short encoding mode }
-{
-    let group = parts.group;
-    let width = parts.width;
-    let first = parts.first;
-    let second = parts.second;
-    if mode_fits(first, second, parts.zero, parts.short, mode) {
-        return encoding_fits(group, parts.base, width, first, second, encoding, mode);
-    }
-    false
-}
-
-// Without a prefix, or where there is one.
-fn prefix_fits(prefix: u8, i: u8) -> bool
-    ensures { result ≡ prefix_fits prefix i }
-{
-    if i < 6 {
-        return true;
-    }
-    prefix != 0
-}
-
-// Can candidate i, below 12, read as an instruction with these parts?
+// Can candidate i, below 12, read as an instruction with these parts? The docs name this function: it answers each u8, as `possible` does.
 pub fn is_possible(parts: Parts, i: u8) -> bool
     ensures { result ≡ possible parts i }
 {
-    if prefix_fits(parts.prefix, i) {
-        if parts.repeat != 0 {
-            return i % 6 == 0;
-        }
-        return start_fits(parts, i / 3 % 2, i % 3);
+    let candidate = Candidate::numbered(i);
+    if candidate.prefixed && parts.prefix == 0 {
+        return false;
     }
-    false
+    if parts.repeat != 0 {
+        return i % 6 == 0;
+    }
+    mode_fits(parts, candidate.mode) && encoding_fits(parts, candidate)
 }

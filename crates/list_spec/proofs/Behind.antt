@@ -1,5 +1,6 @@
 -- The bytes behind opcode and second byte are determined by the instruction read.
 -- Assumes nothing.
+use Rattle.std.specs.Prelude.{Option, Some, None}
 use mathlib.Core.Path.{◌≡◌, refl, sym, ◌∙◌, ap}
 use Prim.Native.Nat.{ℕ, zero, suc, ◌+◌, ◌%◌, ◌≤◌, ◌<◌, zero-le}
 use native.Mathlib.Omega.{arith}
@@ -115,23 +116,23 @@ one_prefix p false true n e = omega arith
 one_prefix p false false n e = let z : ◌≡◌ {A = ℕ} 0 1 = cc in absurd (omega arith)
 
 -- ---- the tail of two slots, of which one has none
-is_none : (u : Tail) → tail_number u ≡ 0 → u ≡ L.None
-is_none L.None e = refl
-is_none L.Byte e = absurd (omega arith)
-is_none L.Word e = absurd (omega arith)
-is_none L.Near8 e = absurd (omega arith)
-is_none L.Near16 e = absurd (omega arith)
-is_none L.Far e = absurd (omega arith)
-is_none L.Address e = absurd (omega arith)
+is_none : (u : Option Tail) → tail_number u ≡ 0 → u ≡ None
+is_none None e = refl
+is_none (Some L.Byte) e = absurd (omega arith)
+is_none (Some L.Word) e = absurd (omega arith)
+is_none (Some L.Near8) e = absurd (omega arith)
+is_none (Some L.Near16) e = absurd (omega arith)
+is_none (Some L.Far) e = absurd (omega arith)
+is_none (Some L.Address) e = absurd (omega arith)
 
-none_right : (t : Tail) → joined t L.None ≡ t
-none_right L.None = refl
-none_right L.Byte = refl
-none_right L.Word = refl
-none_right L.Near8 = refl
-none_right L.Near16 = refl
-none_right L.Far = refl
-none_right L.Address = refl
+none_right : (t : Option Tail) → joined t None ≡ t
+none_right None = refl
+none_right (Some L.Byte) = refl
+none_right (Some L.Word) = refl
+none_right (Some L.Near8) = refl
+none_right (Some L.Near16) = refl
+none_right (Some L.Far) = refl
+none_right (Some L.Address) = refl
 
 two_tails : (off p c x next d v s : ℕ) (t u : List ℕ) (a b : Slot) → T (either (eqb (tail_number (tail_in a)) 0) (eqb (tail_number (tail_in b)) 0))
     → tail_bytes (joined (tail_in a) (tail_in b)) off d v s

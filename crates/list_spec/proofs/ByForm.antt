@@ -1,5 +1,6 @@
 -- The start that a form has with first byte c and second byte x, and the test of equality for starts.
 -- Assumes nothing.
+use Rattle.std.specs.Prelude.{Option, Some, None}
 use mathlib.Core.Path.{◌≡◌, refl, sym, ◌∙◌, ap}
 use Prim.Native.Nat.{ℕ}
 use mathlib.Core.Bool.{Bool}
@@ -17,71 +18,71 @@ use Rattle.list_spec.specs.declared.Tail.TheVariants as L
 use Rattle.list_spec.specs.declared.Start.{Start}
 use Rattle.list_spec.specs.Starts.{start}
 
-abbrev pub second_for : Extension → ℕ → Second
-second_for F.no x = X.None
-second_for F.+r x = X.None
-second_for F.+s x = X.None
-second_for F./r x = X.ModRm x
-second_for (F./ n) x = X.ModRm x
-second_for F.0A x = X.Fixed x
+abbrev pub second_for : Extension → ℕ → Option Second
+second_for F.no x = None
+second_for F.+r x = None
+second_for F.+s x = None
+second_for F./r x = Some (X.ModRm x)
+second_for (F./ n) x = Some (X.ModRm x)
+second_for F.0A x = Some (X.Fixed x)
 
-abbrev pub tail_in : Slot → Tail
-tail_in (rm w) = L.None
-tail_in rm_near = L.None
-tail_in mem = L.None
-tail_in mem_far = L.None
-tail_in (reg w) = L.None
-tail_in sreg = L.None
-tail_in sreg_not_cs = L.None
-tail_in (acc w) = L.None
-tail_in (low3 w) = L.None
-tail_in bits34 = L.None
-tail_in bits34_not_cs = L.None
-tail_in cl = L.None
-tail_in dx = L.None
-tail_in one = L.None
-tail_in (moffs w) = L.Address
-tail_in xlat = L.None
-tail_in ib = L.Byte
-tail_in iw = L.Word
-tail_in ib_sx = L.Byte
-tail_in cb = L.Near8
-tail_in cw = L.Near16
-tail_in ptr = L.Far
-tail_in nil = L.None
+abbrev pub tail_in : Slot → Option Tail
+tail_in (rm w) = None
+tail_in rm_near = None
+tail_in mem = None
+tail_in mem_far = None
+tail_in (reg w) = None
+tail_in sreg = None
+tail_in sreg_not_cs = None
+tail_in (acc w) = None
+tail_in (low3 w) = None
+tail_in bits34 = None
+tail_in bits34_not_cs = None
+tail_in cl = None
+tail_in dx = None
+tail_in one = None
+tail_in (moffs w) = Some L.Address
+tail_in xlat = None
+tail_in ib = Some L.Byte
+tail_in iw = Some L.Word
+tail_in ib_sx = Some L.Byte
+tail_in cb = Some L.Near8
+tail_in cw = Some L.Near16
+tail_in ptr = Some L.Far
+tail_in nil = None
 
 -- the tail of two slots, of which one at most has one
-abbrev pub joined : Tail → Tail → Tail
-joined L.None u = u
-joined L.Byte u = L.Byte
-joined L.Word u = L.Word
-joined L.Near8 u = L.Near8
-joined L.Near16 u = L.Near16
-joined L.Far u = L.Far
-joined L.Address u = L.Address
+abbrev pub joined : Option Tail → Option Tail → Option Tail
+joined None u = u
+joined (Some L.Byte) u = Some L.Byte
+joined (Some L.Word) u = Some L.Word
+joined (Some L.Near8) u = Some L.Near8
+joined (Some L.Near16) u = Some L.Near16
+joined (Some L.Far) u = Some L.Far
+joined (Some L.Address) u = Some L.Address
 
 abbrev pub start_by : Form → ℕ → ℕ → Start
 start_by f c x = start c (second_for f.extension x) (joined (tail_in f.first) (tail_in f.second))
 
 -- ---- equality, as a test
-abbrev second_kind : Second → ℕ
-second_kind X.None = 0
-second_kind (X.ModRm x) = 1
-second_kind (X.Fixed x) = 2
+abbrev second_kind : Option Second → ℕ
+second_kind None = 0
+second_kind (Some (X.ModRm x)) = 1
+second_kind (Some (X.Fixed x)) = 2
 
-abbrev second_byte : Second → ℕ
-second_byte X.None = 0
-second_byte (X.ModRm x) = x
-second_byte (X.Fixed x) = x
+abbrev second_byte : Option Second → ℕ
+second_byte None = 0
+second_byte (Some (X.ModRm x)) = x
+second_byte (Some (X.Fixed x)) = x
 
-abbrev pub tail_number : Tail → ℕ
-tail_number L.None = 0
-tail_number L.Byte = 1
-tail_number L.Word = 2
-tail_number L.Near8 = 3
-tail_number L.Near16 = 4
-tail_number L.Far = 5
-tail_number L.Address = 6
+abbrev pub tail_number : Option Tail → ℕ
+tail_number None = 0
+tail_number (Some L.Byte) = 1
+tail_number (Some L.Word) = 2
+tail_number (Some L.Near8) = 3
+tail_number (Some L.Near16) = 4
+tail_number (Some L.Far) = 5
+tail_number (Some L.Address) = 6
 
 abbrev pub same_start : Start → Start → Bool
 same_start a b =
@@ -90,25 +91,25 @@ same_start a b =
     (both (eqb (second_byte a.second) (second_byte b.second)) (eqb (tail_number a.tail) (tail_number b.tail))))
 
 -- from the numbers
-abbrev second_at : ℕ → ℕ → Second
-second_at k x = pick (eqb k 1) (X.ModRm x) (pick (eqb k 2) (X.Fixed x) X.None)
+abbrev second_at : ℕ → ℕ → Option Second
+second_at k x = pick (eqb k 1) (Some (X.ModRm x)) (pick (eqb k 2) (Some (X.Fixed x)) None)
 
-second_at_lem : (x : Second) → second_at (second_kind x) (second_byte x) ≡ x
-second_at_lem X.None = refl
-second_at_lem (X.ModRm x) = refl
-second_at_lem (X.Fixed x) = refl
+second_at_lem : (x : Option Second) → second_at (second_kind x) (second_byte x) ≡ x
+second_at_lem None = refl
+second_at_lem (Some (X.ModRm x)) = refl
+second_at_lem (Some (X.Fixed x)) = refl
 
-abbrev tail_at : ℕ → Tail
-tail_at n = get_or (L.None ∷ L.Byte ∷ L.Word ∷ L.Near8 ∷ L.Near16 ∷ L.Far ∷ L.Address ∷ []) n L.None
+abbrev tail_at : ℕ → Option Tail
+tail_at n = get_or (None ∷ Some L.Byte ∷ Some L.Word ∷ Some L.Near8 ∷ Some L.Near16 ∷ Some L.Far ∷ Some L.Address ∷ []) n None
 
-tail_at_lem : (t : Tail) → tail_at (tail_number t) ≡ t
-tail_at_lem L.None = refl
-tail_at_lem L.Byte = refl
-tail_at_lem L.Word = refl
-tail_at_lem L.Near8 = refl
-tail_at_lem L.Near16 = refl
-tail_at_lem L.Far = refl
-tail_at_lem L.Address = refl
+tail_at_lem : (t : Option Tail) → tail_at (tail_number t) ≡ t
+tail_at_lem None = refl
+tail_at_lem (Some L.Byte) = refl
+tail_at_lem (Some L.Word) = refl
+tail_at_lem (Some L.Near8) = refl
+tail_at_lem (Some L.Near16) = refl
+tail_at_lem (Some L.Far) = refl
+tail_at_lem (Some L.Address) = refl
 
 -- a conjunction of equalities, one taken off
 first_eq : (a b : ℕ) (q : Bool) → T (both (eqb a b) q) → (a ≡ b) × T q

@@ -1,13 +1,12 @@
 -- The bench sheet's lists (document 01), at every offset. P marks the rows that 01 marks.
 -- Assumes nothing.
+use Rattle.std.specs.Prelude.{None, Some}
 use mathlib.Core.Path.{◌≡◌, refl}
 use mathlib.Core.List.{List, [], ◌∷◌}
 use Prim.Native.Nat.{ℕ}
 use lib.IntN.{pos, negsuc}
 use Rattle.mrc_compiler.specs.declared.ast.Span.{Span}
-use Rattle.mrc_compiler.specs.declared.ast.OptionDataSize.TheVariants as OD
 use Rattle.mrc_compiler.specs.declared.ast.DataSize.TheVariants as D
-use Rattle.mrc_compiler.specs.declared.ast.OptionSegment.TheVariants as OG
 use Rattle.mrc_compiler.specs.declared.encoder.OperandData.{OperandData}
 use Rattle.mrc_compiler.specs.declared.encoder.OperandSize.TheVariants as S
 use Rattle.mrc_compiler.specs.declared.operations.Operation.{Operation}
@@ -40,7 +39,7 @@ pub record Rows (off : ℕ) : Type 0 where
   pub add_ax_5 : listed off Op.ADD (register_operand span 0 S.Word) (immediate_operand span (pos 5))
       ≡ (0x05 ∷ 0x05 ∷ 0x00 ∷ []) ∷ (0x83 ∷ 0xC0 ∷ 0x05 ∷ []) ∷ (0x81 ∷ 0xC0 ∷ 0x05 ∷ 0x00 ∷ []) ∷ []
   -- P: twelve, with DS's prefix and without
-  pub add_word_bx_5 : listed off Op.ADD (indirect_operand span 7 (pos 0) (OD.Some D.Word) OG.None) (immediate_operand span (pos 5))
+  pub add_word_bx_5 : listed off Op.ADD (indirect_operand span 7 (pos 0) (Some D.Word) None) (immediate_operand span (pos 5))
       ≡ (0x83 ∷ 0x07 ∷ 0x05 ∷ [])
       ∷ (0x3E ∷ 0x83 ∷ 0x07 ∷ 0x05 ∷ [])
       ∷ (0x81 ∷ 0x07 ∷ 0x05 ∷ 0x00 ∷ [])
@@ -91,8 +90,8 @@ pub record Rows (off : ℕ) : Type 0 where
   pub rep_movsb : listing off (meaning (with_repeat 0xF3 (no_operands span Op.MOVSB))) ≡ (0xF3 ∷ 0xA4 ∷ []) ∷ []
   pub repne_scasw : listing off (meaning (with_repeat 0xF2 (no_operands span Op.SCASW))) ≡ (0xF2 ∷ 0xAF ∷ []) ∷ []
   -- TEST of memory and a register, in either order
-  pub test_memory : listed off Op.TEST (indirect_operand span 7 (pos 0) OD.None OG.None) (register_operand span 1 S.Byte)
-      ≡ listed off Op.TEST (register_operand span 1 S.Byte) (indirect_operand span 7 (pos 0) OD.None OG.None)
+  pub test_memory : listed off Op.TEST (indirect_operand span 7 (pos 0) None None) (register_operand span 1 S.Byte)
+      ≡ listed off Op.TEST (register_operand span 1 S.Byte) (indirect_operand span 7 (pos 0) None None)
 
 pub rows : (off : ℕ) → Rows off
 unfolding forms canonical starting_with read_form prefix read_plain is_repeat repeats reads counted meant grouped_of same_operand same_instruction arithmetic_immediate arithmetic move_immediate move exchange test_immediate test stack ret jump single start_in start_of string_of candidate_of entry spelled key is_whole reads_as is_listed insert_by among is_accumulator is_address mode_for mode_fits with_alternate immediate_fits arithmetic_fits move_alternate exchange_fits encoding_fits start_fits possible is_string number_of

@@ -1,5 +1,6 @@
 -- The listing is exact: none missing, none beside, each once and in order, at most twelve.
 -- Assumes nothing.
+use Rattle.std.specs.Prelude.{Ok, Err, Option, Some, None}
 use mathlib.Core.Path.{◌≡◌, refl, sym, subst}
 use Prim.Native.Nat.{ℕ, zero, suc, ◌/◌, ◌%◌, ◌≤◌, ◌<◌, zero-le}
 use native.Mathlib.Omega.{arith}
@@ -11,9 +12,7 @@ use lib.Dec.{T, eqb, ltb, eqb→eq, eqb_refl}
 use lib.ListN.{length, get_or}
 use Rattle.mrc_compiler.specs.Choose.{pick}
 use Rattle.x86.specs.declared.Instruction.{Instruction}
-use Rattle.x86.specs.declared.Read.{Read}
-use Rattle.x86.specs.declared.Read.TheVariants.{Whole, Nothing, More}
-use Rattle.x86.specs.Reading.{mode, low, displacement_length, reads}
+use Rattle.x86.specs.Reading.{Read, mode, low, displacement_length, reads}
 use Rattle.x86.specs.Listing.{Bytes, ReadsAs, Among, here, later, IsListing}
 use Rattle.x86.proofs.Tests.{both_left, both_right}
 use Rattle.x86.proofs.Among.{at_among}
@@ -39,16 +38,15 @@ use Rattle.list_spec.proofs.Digits.{key_same}
 use Rattle.list_spec.proofs.Found.{none_missing}
 
 -- ---- the test is the reading
-whole_is : (r : Read) (m : Instruction) (n : ℕ) → T (is_whole r m n) → r ≡ Whole m n
+whole_is : (r : Read) (m : Instruction) (n : ℕ) → T (is_whole r m n) → r ≡ Ok (m, n)
 unfolding is_whole
-whole_is (Whole i k) m n t =
+whole_is (Ok (i, k)) m n t =
     let a = instruction_eq i m (both_left (same_instruction i m) (eqb k n) t) in
     let b = eqb→eq k n (both_right (same_instruction i m) (eqb k n) t) in
     cc
-whole_is Nothing m n t = absurd t
-whole_is More m n t = absurd t
+whole_is (Err e) m n t = absurd t
 
-is_whole_lem : (r : Read) (m : Instruction) (n : ℕ) → r ≡ Whole m n → T (is_whole r m n)
+is_whole_lem : (r : Read) (m : Instruction) (n : ℕ) → r ≡ Ok (m, n) → T (is_whole r m n)
 unfolding is_whole
 is_whole_lem r m n e =
     subst (λ (r : Read). T (is_whole r m n)) (sym e) (both_true (same_instruction m m) (eqb n n) (instruction_same m) (eqb_refl n))
@@ -64,21 +62,21 @@ displacement_bytes_lem : (n d : ℕ) → d < 65536 → Bytes (displacement_bytes
 displacement_bytes_lem n d h =
     picked Bytes (eqb n 0) no_bytes (picked Bytes (eqb n 1) (byte_bytes d) (word_bytes_lem d h))
 
-second_bytes_lem : (x : Second) (d : ℕ) → d < 65536 → Bytes (second_bytes x d)
-second_bytes_lem X.None d h = no_bytes
-second_bytes_lem (X.ModRm x) d h =
+second_bytes_lem : (x : Option Second) (d : ℕ) → d < 65536 → Bytes (second_bytes x d)
+second_bytes_lem None d h = no_bytes
+second_bytes_lem (Some (X.ModRm x)) d h =
     let n = displacement_length (mode x) (low x) in
     one_more (x % 256) (displacement_bytes n d) (omega arith) (displacement_bytes_lem n d h)
-second_bytes_lem (X.Fixed x) d h = byte_bytes x
+second_bytes_lem (Some (X.Fixed x)) d h = byte_bytes x
 
-tail_bytes_lem : (t : Tail) (off d v s : ℕ) → d < 65536 → v < 65536 → s < 65536 → Bytes (tail_bytes t off d v s)
-tail_bytes_lem L.None off d v s hd hv hs = no_bytes
-tail_bytes_lem L.Byte off d v s hd hv hs = byte_bytes _
-tail_bytes_lem L.Word off d v s hd hv hs = word_bytes_lem v hv
-tail_bytes_lem L.Near8 off d v s hd hv hs = byte_bytes _
-tail_bytes_lem L.Near16 off d v s hd hv hs = word_bytes_lem (distance v off 3) (omega arith)
-tail_bytes_lem L.Far off d v s hd hv hs = append_bytes (word_bytes v) (word_bytes s) (word_bytes_lem v hv) (word_bytes_lem s hs)
-tail_bytes_lem L.Address off d v s hd hv hs = word_bytes_lem d hd
+tail_bytes_lem : (t : Option Tail) (off d v s : ℕ) → d < 65536 → v < 65536 → s < 65536 → Bytes (tail_bytes t off d v s)
+tail_bytes_lem None off d v s hd hv hs = no_bytes
+tail_bytes_lem (Some L.Byte) off d v s hd hv hs = byte_bytes _
+tail_bytes_lem (Some L.Word) off d v s hd hv hs = word_bytes_lem v hv
+tail_bytes_lem (Some L.Near8) off d v s hd hv hs = byte_bytes _
+tail_bytes_lem (Some L.Near16) off d v s hd hv hs = word_bytes_lem (distance v off 3) (omega arith)
+tail_bytes_lem (Some L.Far) off d v s hd hv hs = append_bytes (word_bytes v) (word_bytes s) (word_bytes_lem v hv) (word_bytes_lem s hs)
+tail_bytes_lem (Some L.Address) off d v s hd hv hs = word_bytes_lem d hd
 
 string_bytes : (off p : ℕ) (s : Start) (m : Instruction) → p < 256 → Bytes (string_of off p s (parts_of m))
 unfolding string_of

@@ -1,11 +1,12 @@
 -- No string is missing: whatever reads as an instruction to its last byte is one of the twelve candidates.
 -- Assumes nothing.
+use Rattle.std.specs.Prelude.{Ok}
 use mathlib.Core.Path.{◌≡◌, refl, sym, ◌∙◌, ap}
 use Prim.Native.Nat.{ℕ, ◌+◌, ◌/◌, ◌%◌, ◌<◌}
 use native.Mathlib.Omega.{arith}
 use mathlib.Core.Bool.{Bool, true, false}
 use mathlib.Core.Logic.{◌⊎◌, inl, inr}
-use mathlib.Core.List.{List, [], ◌∷◌, ◌++◌}
+use mathlib.Core.List.{List, [], ◌∷◌}
 use lib.Dec.{T, eqb, ltb, ltb→lt}
 use lib.ListN.{length}
 use borrow.Author.Tests.{eqb-true, lt-ltb, le-ltb}
@@ -13,12 +14,11 @@ use Rattle.mrc_compiler.specs.Choose.{pick, either}
 use Rattle.mrc_compiler.specs.Operations.{number_of, is_string}
 use Rattle.encode_groups.specs.Grouping.{grouped_of}
 use Rattle.x86.specs.declared.Instruction.{Instruction}
-use Rattle.x86.specs.declared.Read.TheVariants.{Whole}
 use Rattle.x86.specs.Forms.{Form, forms}
-use Rattle.x86.specs.Reading.{read_plain, reads}
+use Rattle.x86.specs.Reading.{read_plain}
 use Rattle.x86.specs.Listing.{Bytes, ReadsAs}
 use Rattle.x86.proofs.Tests.{is_true, both_parts, each_of, each_at}
-use Rattle.x86.proofs.Repeats.{bare, single, Repeated, HowRead, with_repeat, without, how_read, repeat_byte, repeat_some, plain_repeat}
+use Rattle.x86.proofs.Repeats.{bare, Repeated, HowRead, with_repeat, without, how_read, repeat_byte, repeat_some, plain_repeat}
 use Rattle.x86.specs.Instructions.{repeated}
 use Rattle.list_spec.specs.declared.Start.{Start}
 use Rattle.list_spec.specs.Operands.{prefix_of, displacement_of}
@@ -27,6 +27,7 @@ use Rattle.list_spec.specs.Possible.{start_fits, prefix_fits, possible}
 use Rattle.list_spec.specs.Starts.{primary, start_of, start_in}
 use Rattle.list_spec.specs.Starts as St
 use Rattle.list_spec.specs.Candidates.{string_of, candidate_of, candidate}
+use Rattle.x86.proofs.ByForm.{same_parts}
 use Rattle.list_spec.proofs.ByForm.{same_start, start_eq}
 use Rattle.list_spec.proofs.Covered.{fitting_start, chosen}
 use Rattle.list_spec.proofs.Choices.{both_true}
@@ -74,7 +75,7 @@ at_index : (off : ℕ) (s : List ℕ) (m : Instruction) (p : ℕ) (start : Start
 unfolding candidate_of
 at_index off s m p start i j e es ew em ep z = e ∙ sym (rw (ew, em, es, ep, z) refl)
 
-plain_found : (off : ℕ) (s : List ℕ) (m : Instruction) → off < 65536 → Bytes s → read_plain off s ≡ Whole m (length s) → Found off s m
+plain_found : (off : ℕ) (s : List ℕ) (m : Instruction) → off < 65536 → Bytes s → read_plain off s ≡ Ok (m, length s) → Found off s m
 unfolding possible start_fits
 plain_found off s m h bs e = let w = written off s m h bs e in finish w (six m w.zero w.short w.start w.is_chosen) w.prefix_none
   where
@@ -136,13 +137,13 @@ repeat_found off s m e r = record { i = 0; below = omega arith; is = is_it r.str
         eqb-true _ _ (is_true _ (rw r.string.op_is_string at (each_at own_start forms own_starts r.string.listed)))
 
     is_m : repeated r.b (bare r.string.op) ≡ m
-    is_m = let x = r.reads_it in cc
+    is_m = (same_parts (sym r.reads_it ∙ e)).0
 
     first : T (possible (parts_of m) 0)
     first = rw (← is_m, repeat_some r.b r.byte_is_repeat) tt
 
     two : length s ≡ 2
-    two = let x = r.reads_it in cc
+    two = (same_parts (sym e ∙ r.reads_it)).1
 
     is_it : (t : List ℕ) → r.behind ≡ r.string.c ∷ t → s ≡ candidate off m 0
     is_it [] q =

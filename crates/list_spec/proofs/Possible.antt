@@ -7,7 +7,7 @@ use mathlib.Core.Bool.{Bool, true, false}
 use mathlib.Core.List.{List}
 use lib.Dec.{T, eqb, ltb, eqb→eq, ltb→lt}
 use lib.ListN.{get_or}
-use borrow.Author.Tests.{lt-ltb, le-ltb, le-leb, ltb-true, ltb-false}
+use borrow.Author.Tests.{le-ltb, le-leb, ltb-false}
 use Rattle.mrc_compiler.specs.Choose.{pick, both, isnt}
 use Rattle.x86.specs.declared.operands.OperandType.{OperandType}
 use Rattle.x86.specs.Operands.{in_memory}

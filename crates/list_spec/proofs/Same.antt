@@ -1,9 +1,8 @@
 -- The tests of equality hold for equal instructions and for no others.
 -- Assumes nothing.
 use Rattle.list_spec.proofs.Choices.{both_true}
-use mathlib.Core.Path.{◌≡◌, refl, sym, ◌∙◌, ap}
+use mathlib.Core.Path.{◌≡◌, refl, sym, ◌∙◌}
 use Prim.Native.Nat.{ℕ}
-use mathlib.Core.Bool.{Bool, true, false}
 use lib.Dec.{T, eqb, eqb→eq, eqb_refl}
 use Rattle.mrc_compiler.specs.declared.ast.Segment.TheVariants as G
 use Rattle.mrc_compiler.specs.declared.encoder.OperandSize.{OperandSize}

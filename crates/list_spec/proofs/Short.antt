@@ -1,5 +1,6 @@
 -- A candidate has at most seven bytes.
 -- Assumes nothing.
+use Rattle.std.specs.Prelude.{Option, Some, None}
 use Prim.Native.Nat.{ℕ, ◌+◌, ◌/◌, ◌%◌, ◌≤◌}
 use native.Mathlib.Omega.{arith}
 use mathlib.Core.List.{List, [], ◌∷◌, ◌++◌}
@@ -22,24 +23,24 @@ use Rattle.list_spec.specs.declared.Start.{Start}
 use Rattle.x86.specs.Operands.{a_register, a_segment, in_memory, an_immediate, a_near, a_far}
 use Rattle.list_spec.specs.declared.Parts.{Parts}
 use Rattle.list_spec.specs.Parts.{parts_of}
-use Rattle.list_spec.specs.Starts.{primary, bare, sized, immediate, plus, with_rm, arithmetic_immediate, arithmetic, unary, inc_dec, move_immediate, move_from, move_into, move, exchange, test_immediate, test, stack, ret, load, shift, call, jump, single, port, start_in, start_of}
+use Rattle.list_spec.specs.Starts.{primary, immediate, arithmetic_immediate, arithmetic, unary, inc_dec, move_immediate, move_from, move_into, move, exchange, test_immediate, test, stack, ret, load, shift, call, jump, single, port, start_in, start_of}
 use Rattle.list_spec.specs.Candidates.{displacement_bytes, second_bytes, tail_bytes, string_of, candidate_of, candidate}
 use Rattle.list_spec.proofs.Choices.{picked}
 
 -- the most bytes that a second byte has with its displacement
-abbrev second_most : Second → ℕ
-second_most X.None = 0
-second_most (X.ModRm x) = 3
-second_most (X.Fixed x) = 1
+abbrev second_most : Option Second → ℕ
+second_most None = 0
+second_most (Some (X.ModRm x)) = 3
+second_most (Some (X.Fixed x)) = 1
 
-abbrev tail_most : Tail → ℕ
-tail_most L.None = 0
-tail_most L.Byte = 1
-tail_most L.Word = 2
-tail_most L.Near8 = 1
-tail_most L.Near16 = 2
-tail_most L.Far = 4
-tail_most L.Address = 2
+abbrev tail_most : Option Tail → ℕ
+tail_most None = 0
+tail_most (Some L.Byte) = 1
+tail_most (Some L.Word) = 2
+tail_most (Some L.Near8) = 1
+tail_most (Some L.Near16) = 2
+tail_most (Some L.Far) = 4
+tail_most (Some L.Address) = 2
 
 -- behind the opcode
 abbrev most : Start → ℕ
@@ -106,19 +107,19 @@ displacement_short : (n d : ℕ) → length (displacement_bytes n d) ≤ 2
 displacement_short n d =
     picked (Within 2) (eqb n 0) (lit≤ tt) (picked (Within 2) (eqb n 1) (lit≤ tt) (lit≤ tt))
 
-second_short : (x : Second) (d : ℕ) → length (second_bytes x d) ≤ second_most x
-second_short X.None d = lit≤ tt
-second_short (X.ModRm x) d = omega (arith, displacement_short (displacement_length (mode x) (low x)) d)
-second_short (X.Fixed x) d = lit≤ tt
+second_short : (x : Option Second) (d : ℕ) → length (second_bytes x d) ≤ second_most x
+second_short None d = lit≤ tt
+second_short (Some (X.ModRm x)) d = omega (arith, displacement_short (displacement_length (mode x) (low x)) d)
+second_short (Some (X.Fixed x)) d = lit≤ tt
 
-tail_short : (t : Tail) (off d v s : ℕ) → length (tail_bytes t off d v s) ≤ tail_most t
-tail_short L.None off d v s = lit≤ tt
-tail_short L.Byte off d v s = lit≤ tt
-tail_short L.Word off d v s = lit≤ tt
-tail_short L.Near8 off d v s = lit≤ tt
-tail_short L.Near16 off d v s = lit≤ tt
-tail_short L.Far off d v s = lit≤ tt
-tail_short L.Address off d v s = lit≤ tt
+tail_short : (t : Option Tail) (off d v s : ℕ) → length (tail_bytes t off d v s) ≤ tail_most t
+tail_short None off d v s = lit≤ tt
+tail_short (Some L.Byte) off d v s = lit≤ tt
+tail_short (Some L.Word) off d v s = lit≤ tt
+tail_short (Some L.Near8) off d v s = lit≤ tt
+tail_short (Some L.Near16) off d v s = lit≤ tt
+tail_short (Some L.Far) off d v s = lit≤ tt
+tail_short (Some L.Address) off d v s = lit≤ tt
 
 string_short : (off p : ℕ) (s : Start) (q : Parts) → most s ≤ 5 → length (string_of off p s q) ≤ 7
 unfolding string_of

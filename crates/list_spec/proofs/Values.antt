@@ -1,5 +1,6 @@
 -- What the bytes behind opcode and second byte are, from the numbers that they were read as.
 -- Assumes nothing.
+use Rattle.std.specs.Prelude.{Option, Some, None}
 use mathlib.Core.Path.{◌≡◌, refl, sym, ap, ap₂}
 use Prim.Native.Nat.{ℕ, zero, suc, ◌+◌, ◌*◌, ◌/◌, ◌%◌, ◌≤◌, ◌<◌}
 use native.Mathlib.Omega.{arith}
@@ -128,24 +129,24 @@ rm_prefix p x t e = go (ltb (mode x) 3)
     go false = refl
 
 -- ---- the immediate of a tail, by the tail's kind: value v, or target v with the segment s
-abbrev pub immediate_bytes : Tail → ℕ → ℕ → ℕ → List ℕ
-immediate_bytes L.None off v s = []
-immediate_bytes L.Byte off v s = byte_of v
-immediate_bytes L.Word off v s = word_bytes v
-immediate_bytes L.Near8 off v s = byte_of (distance v off 2)
-immediate_bytes L.Near16 off v s = word_bytes (distance v off 3)
-immediate_bytes L.Far off v s = word_bytes v ++ word_bytes s
-immediate_bytes L.Address off v s = []
+abbrev pub immediate_bytes : Option Tail → ℕ → ℕ → ℕ → List ℕ
+immediate_bytes None off v s = []
+immediate_bytes (Some L.Byte) off v s = byte_of v
+immediate_bytes (Some L.Word) off v s = word_bytes v
+immediate_bytes (Some L.Near8) off v s = byte_of (distance v off 2)
+immediate_bytes (Some L.Near16) off v s = word_bytes (distance v off 3)
+immediate_bytes (Some L.Far) off v s = word_bytes v ++ word_bytes s
+immediate_bytes (Some L.Address) off v s = []
 
 -- the length of an instruction with a near target
-abbrev pub near : Tail → ℕ
-near L.None = 0
-near L.Byte = 0
-near L.Word = 0
-near L.Near8 = 2
-near L.Near16 = 3
-near L.Far = 0
-near L.Address = 0
+abbrev pub near : Option Tail → ℕ
+near None = 0
+near (Some L.Byte) = 0
+near (Some L.Word) = 0
+near (Some L.Near8) = 2
+near (Some L.Near16) = 3
+near (Some L.Far) = 0
+near (Some L.Address) = 0
 
 -- an address that is no displacement
 abbrev pub address_only : Place → ℕ
@@ -171,7 +172,7 @@ rm_segment p x t = go (ltb (mode x) 3)
 
 module _ (off p x next : ℕ) (t u : List ℕ) where
   -- what the bytes t (address) and u (immediate) of a slot have to do with its operand o, where memory is at l, the immediate takes k bytes and the tail is y
-  pub record Holds (o : Operand) (l : Place) (k : ℕ) (y : Tail) : Type 0 where
+  pub record Holds (o : Operand) (l : Place) (k : ℕ) (y : Option Tail) : Type 0 where
     -- the displacement is that of the address bytes
     pub displacement : displacement_in o ≡ displacement_at (address_length l x) t
     -- memory behind a prefix is in its segment
@@ -188,7 +189,7 @@ module _ (off p x next : ℕ) (t u : List ℕ) where
 
   -- no immediate and no address
   still : {o : Operand} {l : Place} → address_only l ≡ 0 → displacement_in o ≡ displacement_at (address_length l x) t
-      → (prefix p ≡ true → prefix_in o ≡ pick (in_memory l x) p 0) → value_in o ≡ 0 → far_segment_in o ≡ 0 → Holds o l 0 L.None
+      → (prefix p ≡ true → prefix_in o ≡ pick (in_memory l x) p 0) → value_in o ≡ 0 → far_segment_in o ≡ 0 → Holds o l 0 None
   still a d q v s =
       record {
         displacement = d;
@@ -200,14 +201,14 @@ module _ (off p x next : ℕ) (t u : List ℕ) where
         address = λ _. a;
       }
 
-  plain : {o : Operand} → displacement_in o ≡ 0 → prefix_in o ≡ 0 → value_in o ≡ 0 → far_segment_in o ≡ 0 → Holds o nowhere 0 L.None
+  plain : {o : Operand} → displacement_in o ≡ 0 → prefix_in o ≡ 0 → value_in o ≡ 0 → far_segment_in o ≡ 0 → Holds o nowhere 0 None
   plain d q v s = still refl d (λ _. q) v s
 
-  in_rm : Holds (rm_at p x t) by_modrm 0 L.None
+  in_rm : Holds (rm_at p x t) by_modrm 0 None
   in_rm = still refl (rm_displacement p x t) (rm_prefix p x t) (rm_value p x t) (rm_segment p x t)
 
   -- an immediate alone
-  given : {o : Operand} {k : ℕ} {y : Tail} → displacement_in o ≡ 0 → prefix_in o ≡ 0 → 0 < k → (Bytes u → (value_in o < 65536) × (far_segment_in o < 65536))
+  given : {o : Operand} {k : ℕ} {y : Option Tail} → displacement_in o ≡ 0 → prefix_in o ≡ 0 → 0 < k → (Bytes u → (value_in o < 65536) × (far_segment_in o < 65536))
       → ((d v s : ℕ) → tail_bytes y off d v s ≡ immediate_bytes y off v s)
       → (off < 65536 → Bytes u → length u ≡ k → (0 < near y → next ≡ off + near y) → u ≡ immediate_bytes y off (value_in o) (far_segment_in o))
       → Holds o nowhere k y

@@ -1,5 +1,6 @@
 -- What is read to the last byte, without a repeat, is the string of its instruction with some start.
 -- Assumes nothing.
+use Rattle.std.specs.Prelude.{Ok, Err}
 use mathlib.Core.Path.{◌≡◌, refl, sym, ◌∙◌, ap, ap₂, subst}
 use Prim.Native.Nat.{ℕ, zero, suc, ◌+◌, ◌%◌, ◌<◌}
 use native.Mathlib.Omega.{arith}
@@ -10,13 +11,13 @@ use lib.Dec.{T, eqb, ltb, leb, eqb-suc-zero}
 use lib.ListN.{length, length-append}
 use Rattle.mrc_compiler.specs.Choose.{pick, either}
 use Rattle.x86.specs.declared.Instruction.{Instruction}
-use Rattle.x86.specs.declared.Read.TheVariants.{Whole, Nothing, More}
+use Rattle.x86.specs.declared.ReadError.TheVariants.{NotAnInstruction, NotComplete}
 use Rattle.x86.specs.Forms.{Form, forms}
 use Rattle.x86.specs.Reading.{fits, some, starting_with, fitting, has_second, head_length, memory_length, tail_length, displacement_at, names_memory, may_name_memory, instruction_of, read_form, read_first, read_second, read_opcode, prefix, read_plain}
 use Rattle.x86.specs.Listing.{Bytes}
 use Rattle.x86.proofs.Tests.{kept, some-false}
 use Rattle.x86.proofs.Unambiguous.{second_agrees}
-use Rattle.x86.proofs.ByForm.{more_not_whole, nothing_not_whole, pick_whole, in_forms}
+use Rattle.x86.proofs.ByForm.{more_not_whole, nothing_not_whole, same_parts, pick_whole, in_forms}
 use Rattle.encode_spec.specs.Layout.{prefix_bytes}
 use Rattle.list_spec.specs.declared.Start.{Start}
 use Rattle.list_spec.specs.Operands.{prefix_of, displacement_of}
@@ -41,15 +42,15 @@ pub record Parsed (off p : ℕ) (s : List ℕ) (m : Instruction) (n : ℕ) : Typ
   pub f : Form
   pub listed : Memᴰ f forms
   pub fits_them : Fits f c x
-  pub read : read_form off p c x t f ≡ Whole m n
+  pub read : read_form off p c x t f ≡ Ok (m, n)
   pub is : s ≡ c ∷ (pick (has_second f.extension) (x ∷ []) [] ++ t)
   pub c_byte : c < 256
   pub x_byte : x < 256
   pub t_bytes : Bytes t
   pub found : T (chosen_by (instruction_of off p f c x t) f c x)
 
-first_by : (off p c x : ℕ) (t : List ℕ) (fs : List Form) {m : Instruction} {n : ℕ} → read_first off p c x t fs ≡ Whole m n
-    → (f : Form) × (gs : List Form) × (fs ≡ f ∷ gs) × (read_form off p c x t f ≡ Whole m n)
+first_by : (off p c x : ℕ) (t : List ℕ) (fs : List Form) {m : Instruction} {n : ℕ} → read_first off p c x t fs ≡ Ok (m, n)
+    → (f : Form) × (gs : List Form) × (fs ≡ f ∷ gs) × (read_form off p c x t f ≡ Ok (m, n))
 first_by off p c x t [] e = absurd (nothing_not_whole e)
 first_by off p c x t (f ∷ fs) e = (f, fs, refl, e)
 
@@ -57,7 +58,7 @@ in_list : (f : Form) (fs gs : List Form) → fs ≡ f ∷ gs → Memᴰ f fs
 in_list f fs gs e = rw e (Memᴰ.head refl)
 
 by_second : (off p c : ℕ) (t : List ℕ) {m : Instruction} {n : ℕ} → Bytes (c ∷ t) → some (λ f. has_second f.extension) (starting_with c) ≡ true
-    → read_second off p c (starting_with c) t ≡ Whole m n → Parsed off p (c ∷ t) m n
+    → read_second off p c (starting_with c) t ≡ Ok (m, n) → Parsed off p (c ∷ t) m n
 by_second off p c [] bs q e = absurd (more_not_whole e)
 by_second off p c (x ∷ t) bs q e =
     let (f, gs, l, r) = first_by off p c x t (fitting x (starting_with c)) e in
@@ -80,7 +81,7 @@ by_second off p c (x ∷ t) bs q e =
     }
 
 by_first : (off p c : ℕ) (t : List ℕ) {m : Instruction} {n : ℕ} → Bytes (c ∷ t) → some (λ f. has_second f.extension) (starting_with c) ≡ false
-    → read_first off p c 0 t (starting_with c) ≡ Whole m n → Parsed off p (c ∷ t) m n
+    → read_first off p c 0 t (starting_with c) ≡ Ok (m, n) → Parsed off p (c ∷ t) m n
 by_first off p c t bs q e =
     let (f, gs, l, r) = first_by off p c 0 t (starting_with c) e in
     let i = in_list f (starting_with c) gs l in
@@ -100,27 +101,27 @@ by_first off p c t bs q e =
       found = without_second off p t c (bs 0) q i;
     }
 
-pub parsed : (off p : ℕ) (s : List ℕ) {m : Instruction} {n : ℕ} → Bytes s → read_opcode off p s ≡ Whole m n → Parsed off p s m n
+pub parsed : (off p : ℕ) (s : List ℕ) {m : Instruction} {n : ℕ} → Bytes s → read_opcode off p s ≡ Ok (m, n) → Parsed off p s m n
 parsed off p [] bs e = absurd (more_not_whole e)
 parsed off p (c ∷ t) {m} {n} bs e =
-    go (some (λ f. has_second f.extension) fs) refl (pick_whole (some (λ f. either (eqb p 0) (may_name_memory f)) fs) _ Nothing nothing_not_whole e).1
+    go (some (λ f. has_second f.extension) fs) refl (pick_whole (some (λ f. either (eqb p 0) (may_name_memory f)) fs) _ (Err NotAnInstruction) nothing_not_whole e).1
   where
     fs : List Form
     fs = starting_with c
 
-    go : (b : Bool) → some (λ f. has_second f.extension) fs ≡ b → pick b (read_second off p c fs t) (read_first off p c 0 t fs) ≡ Whole m n
+    go : (b : Bool) → some (λ f. has_second f.extension) fs ≡ b → pick b (read_second off p c fs t) (read_first off p c 0 t fs) ≡ Ok (m, n)
         → Parsed off p (c ∷ t) m n
     go true q e = by_second off p c t bs q e
     go false q e = by_first off p c t bs q e
 
 -- what a form reads whole
-form_whole : (off p c x : ℕ) (t : List ℕ) (f : Form) {m : Instruction} {n : ℕ} → read_form off p c x t f ≡ Whole m n
+form_whole : (off p c x : ℕ) (t : List ℕ) (f : Form) {m : Instruction} {n : ℕ} → read_form off p c x t f ≡ Ok (m, n)
     → (either (eqb p 0) (names_memory f x) ≡ true) × (instruction_of off p f c x t ≡ m) × (head_length p f + tail_length f x ≡ n)
 unfolding read_form
 form_whole off p c x t f e =
-    let (o, a) = pick_whole (either (eqb p 0) (names_memory f x)) _ Nothing nothing_not_whole e in
-    let (l, w) = pick_whole (leb (tail_length f x) (length t)) (Whole (instruction_of off p f c x t) (head_length p f + tail_length f x)) More more_not_whole a in
-    (o, cc, cc)
+    let (o, a) = pick_whole (either (eqb p 0) (names_memory f x)) _ (Err NotAnInstruction) nothing_not_whole e in
+    let (l, w) = pick_whole (leb (tail_length f x) (length t)) (Ok (instruction_of off p f c x t, head_length p f + tail_length f x)) (Err NotComplete) more_not_whole a in
+    (o, (same_parts w).0, (same_parts w).1)
 
 prefix_length : (p : ℕ) → length (prefix_bytes p) ≡ pick (eqb p 0) 0 1
 prefix_length p = go (eqb p 0)
@@ -210,11 +211,11 @@ module _ (off p : ℕ) (s₀ s : List ℕ) (m : Instruction) (e : s₀ ≡ prefi
       segment (inl z) = inl z
       segment (inr (q, k)) = inr (sym (prefix_of_lem q k))
 
-pub written : (off : ℕ) (s : List ℕ) (m : Instruction) → off < 65536 → Bytes s → read_plain off s ≡ Whole m (length s) → Written off s m
+pub written : (off : ℕ) (s : List ℕ) (m : Instruction) → off < 65536 → Bytes s → read_plain off s ≡ Ok (m, length s) → Written off s m
 unfolding read_plain
 written off [] m h bs e = absurd (more_not_whole e)
 written off (b ∷ s) m h bs e = go (prefix b) refl e
   where
-    go : (q : Bool) → prefix b ≡ q → pick q (read_opcode off b s) (read_opcode off 0 (b ∷ s)) ≡ Whole m (length (b ∷ s)) → Written off (b ∷ s) m
+    go : (q : Bool) → prefix b ≡ q → pick q (read_opcode off b s) (read_opcode off 0 (b ∷ s)) ≡ Ok (m, length (b ∷ s)) → Written off (b ∷ s) m
     go true q e = from_parsed off b (b ∷ s) s m (rw (prefix_not_0 b q) refl) h (parsed off b s (λ i. bs (suc i)) e) (inr (q, bs 0))
     go false q e = from_parsed off 0 (b ∷ s) (b ∷ s) m refl h (parsed off 0 (b ∷ s) bs e) (inl refl)

@@ -1,7 +1,7 @@
 -- The twelve strings among which all strings of an instruction are: six starts, without and with the prefix of its segment. The values in
 -- them are the instruction's.
 -- Definitions only.
-use Rattle.std.specs.Prelude.{ℕ, ◌+◌, ◌-◌, ◌/◌, ◌%◌, List, [], ◌∷◌, ◌++◌, eqb, ltb}
+use Rattle.std.specs.Prelude.{ℕ, ◌+◌, ◌-◌, ◌/◌, ◌%◌, List, [], ◌∷◌, ◌++◌, eqb, ltb, Option, Some, None}
 use Rattle.mrc_compiler.specs.Choose.{pick}
 use Rattle.x86.specs.declared.Instruction.{Instruction}
 use Rattle.x86.specs.Reading.{mode, low, displacement_length}
@@ -23,24 +23,24 @@ abbrev pub displacement_bytes : ℕ → ℕ → List ℕ
 displacement_bytes n d = pick (eqb n 0) [] (pick (eqb n 1) (byte_of d) (word_bytes d))
 
 -- the second byte, with a displacement of value d where it is ModRM
-abbrev pub second_bytes : Second → ℕ → List ℕ
-second_bytes X.None d = []
-second_bytes (X.ModRm x) d = x % 256 ∷ displacement_bytes (displacement_length (mode x) (low x)) d
-second_bytes (X.Fixed x) d = byte_of x
+abbrev pub second_bytes : Option Second → ℕ → List ℕ
+second_bytes None d = []
+second_bytes (Some (X.ModRm x)) d = x % 256 ∷ displacement_bytes (displacement_length (mode x) (low x)) d
+second_bytes (Some (X.Fixed x)) d = byte_of x
 
 -- the distance to the target t from the end of n bytes at an offset
 abbrev pub distance : ℕ → ℕ → ℕ → ℕ
 distance t off n = (t + 131072 - (off + n)) % 65536
 
 -- the tail at an offset: address d, value or target v, far segment s, each below 65,536
-abbrev pub tail_bytes : Tail → ℕ → ℕ → ℕ → ℕ → List ℕ
-tail_bytes L.None off d v s = []
-tail_bytes L.Byte off d v s = byte_of v
-tail_bytes L.Word off d v s = word_bytes v
-tail_bytes L.Near8 off d v s = byte_of (distance v off 2)
-tail_bytes L.Near16 off d v s = word_bytes (distance v off 3)
-tail_bytes L.Far off d v s = word_bytes v ++ word_bytes s
-tail_bytes L.Address off d v s = word_bytes d
+abbrev pub tail_bytes : Option Tail → ℕ → ℕ → ℕ → ℕ → List ℕ
+tail_bytes None off d v s = []
+tail_bytes (Some L.Byte) off d v s = byte_of v
+tail_bytes (Some L.Word) off d v s = word_bytes v
+tail_bytes (Some L.Near8) off d v s = byte_of (distance v off 2)
+tail_bytes (Some L.Near16) off d v s = word_bytes (distance v off 3)
+tail_bytes (Some L.Far) off d v s = word_bytes v ++ word_bytes s
+tail_bytes (Some L.Address) off d v s = word_bytes d
 
 -- the string at an offset with a prefix, a start and the values of the parts q
 unfoldable pub string_of : ℕ → ℕ → Start → Parts → List ℕ

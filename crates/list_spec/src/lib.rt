@@ -1,15 +1,16 @@
 // The listing of demand 3 as definitions and theorems, and the values that its code hands on.
 #![tactic(auto)]
 
+ghost use Rattle.std.specs.Prelude.{◌≡◌, ◌/◌, ◌%◌, leb};
+ghost use Rattle.list_spec.specs.Encodings.{encoding_number};
+
 use encode_groups::Group;
 use mrc_compiler::encoder::OperandSize;
 use x86::operands::OperandType;
 
 // The byte behind an opcode.
-#[derive(Clone, Copy)]
+#[derive(Clone, Copy, Debug, PartialEq, Eq)]
 pub enum Second {
-    None,
-
     // A ModRM byte, with the displacement that it asks for.
     ModRm(u8),
 
@@ -18,10 +19,8 @@ pub enum Second {
 }
 
 // What an instruction ends with.
-#[derive(Clone, Copy)]
+#[derive(Clone, Copy, Debug, PartialEq, Eq)]
 pub enum Tail {
-    None,
-
     // An immediate byte, an immediate word.
     Byte,
     Word,
@@ -38,15 +37,50 @@ pub enum Tail {
 }
 
 // How a string of an instruction goes on behind its prefix; the values in it are the instruction's.
-#[derive(Clone, Copy)]
+#[derive(Clone, Copy, Debug, PartialEq, Eq)]
 pub struct Start {
     pub opcode: u8,
-    pub second: Second,
-    pub tail: Tail,
+    pub second: Option<Second>,
+    pub tail: Option<Tail>,
+}
+
+// Which of an instruction's two encodings.
+#[derive(Clone, Copy, Debug, PartialEq, Eq)]
+pub enum Encoding {
+    Primary,
+    Alternate,
+}
+
+// One of the twelve strings that come into question for an instruction: by its encoding and mode, without or with the prefix of its segment.
+#[derive(Clone, Copy, Debug, PartialEq, Eq)]
+pub struct Candidate {
+    pub prefixed: bool,
+    pub encoding: Encoding,
+    pub mode: u8,
+}
+
+impl Candidate {
+    // Candidate i, below 12: three modes of each encoding, then the same with the prefix.
+    pub fn numbered(i: u8) -> Candidate
+        ensures prefixed { result.prefixed ≡ leb 6 i }
+        ensures encoding { encoding_number result.encoding ≡ i / 3 % 2 }
+        ensures mode { result.mode ≡ i % 3 }
+    {
+        let encoding = if i / 3 % 2 == 0 {
+            Encoding::Primary
+        } else {
+            Encoding::Alternate
+        };
+        Candidate {
+            prefixed: 6 <= i,
+            encoding,
+            mode: i % 3,
+        }
+    }
 }
 
 // What of an instruction its strings are made of.
-#[derive(Clone, Copy)]
+#[derive(Clone, Copy, Debug, PartialEq, Eq)]
 pub struct Parts {
     pub repeat: u8,
 

@@ -1,5 +1,6 @@
 -- Demand 3 of what list answers and leaves in the lent slice, by its contract alone.
 -- Assumes nothing.
+use Rattle.std.specs.Prelude.{Err, Ok}
 use mathlib.Core.Path.{◌≡◌, refl, sym, ◌∙◌, ap, subst}
 use Prim.Native.Nat.{ℕ, zero, suc, ◌+◌, ◌*◌, ◌-◌, ◌≤◌, ◌<◌}
 use native.Mathlib.Omega.{arith}
@@ -22,7 +23,6 @@ use Rattle.list_spec.specs.Demand3.{Lists}
 use Rattle.list_spec.proofs.Order.{entry_length}
 use Rattle.list_spec.proofs.Exact.{listing_is}
 use Rattle.list_spec.proofs.Accepted.{accepted_lists}
-use Rattle.lister.specs.declared.Listed.TheVariants as N
 use Rattle.lister.specs.Listing.{listed, outcome, slice_after}
 use Rattle.lister.specs.Demand3.{entry_at, Listed3, IsTheirNumber}
 
@@ -94,16 +94,16 @@ module _ (insn : InstructionData) (off : ℕ) (bs before : List ℕ) (x : Lists 
       }
 
 -- ---- what list answers
-not_both : {n : ℕ} {e : EncodeError} → N.Refused e ≡ N.Count n → ⊥
+not_both : {n : ℕ} {e : EncodeError} → Err e ≡ Ok n → ⊥
 not_both q = let z : ◌≡◌ {A = ℕ} 0 1 = cc in omega arith
 
 module _ (insn : InstructionData) (off : ℕ) (s : List ℕ) where
-  counted_by : off < 65536 → (a : Answer) → answer insn off ≡ a → (n : ℕ) → outcome a insn off s ≡ N.Count n
+  counted_by : off < 65536 → (a : Answer) → answer insn off ≡ a → (n : ℕ) → outcome a insn off s ≡ Ok n
       → (bs : List ℕ) × (answer insn off ≡ bytes bs) × Listed3 insn off n bs s (slice_after a insn off s)
   counted_by h (refused e) q n o = absurd (not_both o)
   counted_by h (bytes bs) q n o = go (leb 96 (length s)) o
     where
-      go : (t : Bool) → pick t (N.Count (length (listed insn off))) (N.Refused (E.SliceTooShort insn.opers_span)) ≡ N.Count n
+      go : (t : Bool) → pick t (Ok (length (listed insn off))) (Err (E.SliceTooShort insn.opers_span)) ≡ Ok n
           → (bs : List ℕ) × (answer insn off ≡ bytes bs) × Listed3 insn off n bs s (pick t (entries (listed insn off) ++ drop (8 * length (listed insn off)) s) s)
       go false o = absurd (not_both o)
       go true o =
@@ -111,36 +111,36 @@ module _ (insn : InstructionData) (off : ℕ) (s : List ℕ) where
           rw (e) (bs, q, in_slice insn off bs s (accepted_lists insn off h bs q))
 
   -- demand 3: where list answers a count, the encoder accepts the record, and the slice is as the demand says
-  pub counted_lists : off < 65536 → (n : ℕ) → outcome (answer insn off) insn off s ≡ N.Count n
+  pub counted_lists : off < 65536 → (n : ℕ) → outcome (answer insn off) insn off s ≡ Ok n
       → (bs : List ℕ) × (answer insn off ≡ bytes bs) × Listed3 insn off n bs s (slice_after (answer insn off) insn off s)
   counted_lists h = counted_by h (answer insn off) refl
 
-  number_by : off < 65536 → (a : Answer) (n : ℕ) → outcome a insn off s ≡ N.Count n → IsTheirNumber insn off n
+  number_by : off < 65536 → (a : Answer) (n : ℕ) → outcome a insn off s ≡ Ok n → IsTheirNumber insn off n
   number_by h (refused e) n o = absurd (not_both o)
   number_by h (bytes bs) n o = go (leb 96 (length s)) o
     where
-      go : (t : Bool) → pick t (N.Count (length (listed insn off))) (N.Refused (E.SliceTooShort insn.opers_span)) ≡ N.Count n → IsTheirNumber insn off n
+      go : (t : Bool) → pick t (Ok (length (listed insn off))) (Err (E.SliceTooShort insn.opers_span)) ≡ Ok n → IsTheirNumber insn off n
       go false o = absurd (not_both o)
       go true o = (listed insn off, listing_is off (meaning insn) h, (cc))
 
   -- the count is the number of these strings
-  pub count_is : off < 65536 → (n : ℕ) → outcome (answer insn off) insn off s ≡ N.Count n → IsTheirNumber insn off n
+  pub count_is : off < 65536 → (n : ℕ) → outcome (answer insn off) insn off s ≡ Ok n → IsTheirNumber insn off n
   count_is h = number_by h (answer insn off)
 
   -- for every accepted record and every slice of at least 96 bytes it does
   pub accepted_counts : (bs : List ℕ) → answer insn off ≡ bytes bs → 96 ≤ length s
-      → outcome (answer insn off) insn off s ≡ N.Count (length (listed insn off))
+      → outcome (answer insn off) insn off s ≡ Ok (length (listed insn off))
   accepted_counts bs q h = rw (q, le-leb 96 (length s) h) refl
 
-  unchanged : (a : Answer) (e : EncodeError) → outcome a insn off s ≡ N.Refused e → slice_after a insn off s ≡ s
+  unchanged : (a : Answer) (e : EncodeError) → outcome a insn off s ≡ Err e → slice_after a insn off s ≡ s
   unchanged (refused x) e o = refl
   unchanged (bytes bs) e o = go (leb 96 (length s)) o
     where
-      go : (t : Bool) → pick t (N.Count (length (listed insn off))) (N.Refused (E.SliceTooShort insn.opers_span)) ≡ N.Refused e
+      go : (t : Bool) → pick t (Ok (length (listed insn off))) (Err (E.SliceTooShort insn.opers_span)) ≡ Err e
           → pick t (entries (listed insn off) ++ drop (8 * length (listed insn off)) s) s ≡ s
       go false o = refl
       go true o = let z : ◌≡◌ {A = ℕ} 0 1 = cc in absurd (omega arith)
 
   -- a refusal changes no byte
-  pub refused_leaves : (e : EncodeError) → outcome (answer insn off) insn off s ≡ N.Refused e → slice_after (answer insn off) insn off s ≡ s
+  pub refused_leaves : (e : EncodeError) → outcome (answer insn off) insn off s ≡ Err e → slice_after (answer insn off) insn off s ≡ s
   refused_leaves e = unchanged (answer insn off) e

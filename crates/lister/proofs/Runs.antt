@@ -1,5 +1,6 @@
 -- The run of a candidate holds its string and spells its number.
 -- Assumes nothing.
+use Rattle.std.specs.Prelude.{Option, Some, None}
 use mathlib.Core.Path.{◌≡◌, refl, sym, ◌∙◌, ap, subst}
 use Prim.Native.Nat.{ℕ, ◌+◌, ◌≤◌, ◌<◌}
 use native.Mathlib.Omega.{arith}
@@ -61,28 +62,25 @@ module _ (off : ℕ) (m : Instruction) (i : ℕ) (run : ByteRun) (e : run ≡ ap
   test_is b eb = let h = held in sym (eb ∙ (ap (λ (s : List ℕ). is_whole (reads off s) m run.len) h.bytes_are ∙ ap (is_whole (reads off (candidate off m i)) m) h.length_is))
 
   pub key_yes : (b : Bool) (v : ℕ) → possible (parts_of m) i ≡ true → b ≡ is_whole (reads off (take run.len run.bytes)) m run.len → b ≡ true → v ≡ key_of run
-      → v ≡ candidate_key off m i
+      → Some v ≡ candidate_key off m i
   unfolding is_listed
-  key_yes b v p eb t ev = rw (p, test_is b eb ∙ t) (ev ∙ held.key_are)
+  key_yes b v p eb t ev = rw (p, test_is b eb ∙ t) (ap Some (ev ∙ held.key_are))
 
-  pub key_no : (b : Bool) → possible (parts_of m) i ≡ true → b ≡ is_whole (reads off (take run.len run.bytes)) m run.len → b ≡ false → 0 ≡ candidate_key off m i
+  pub key_no : (b : Bool) → possible (parts_of m) i ≡ true → b ≡ is_whole (reads off (take run.len run.bytes)) m run.len → b ≡ false → None ≡ candidate_key off m i
   unfolding is_listed
   key_no b p eb t = rw (p, test_is b eb ∙ t)
 
 -- what cannot be the instruction's
-pub key_none : (off : ℕ) (m : Instruction) (i : ℕ) → possible (parts_of m) i ≡ false → 0 ≡ candidate_key off m i
+pub key_none : (off : ℕ) (m : Instruction) (i : ℕ) → possible (parts_of m) i ≡ false → None ≡ candidate_key off m i
 unfolding is_listed
 key_none off m i p = rw p
 
 -- ---- the numbers of the first n candidates
-abbrev pub Filled : ℕ → Instruction → List ℕ → ℕ → Type 0
-Filled off m keys n = (j : ℕ) → j < n → get_or keys j 0 ≡ candidate_key off m j
+abbrev pub Filled : ℕ → Instruction → List (Option ℕ) → ℕ → Type 0
+Filled off m keys n = (j : ℕ) → j < n → get_or keys j None ≡ candidate_key off m j
 
-pub fill_again : (off : ℕ) (m : Instruction) (keys : List ℕ) (i v : ℕ) → i < length keys → Filled off m keys i → v ≡ candidate_key off m i
+pub fill_again : (off : ℕ) (m : Instruction) (keys : List (Option ℕ)) (i : ℕ) (v : Option ℕ) → i < length keys → Filled off m keys i → v ≡ candidate_key off m i
     → Filled off m (set keys i v) (i + 1)
 fill_again off m keys i v h f e j l =
-    ⊎_elim (λ (z : j ≡ i). rw z (get_or-set_same keys i v 0 h ∙ e)) (λ (z : j < i). get_or-set_other keys i j v 0 (λ q. omega arith) ∙ f j z)
+    ⊎_elim (λ (z : j ≡ i). rw z (get_or-set_same keys i v None h ∙ e)) (λ (z : j < i). get_or-set_other keys i j v None (λ q. omega arith) ∙ f j z)
     (eq-or-lt_of_le (le_of_suc-le-suc (rw add-one at l)))
-
-pub fill_done : (off : ℕ) (m : Instruction) (keys : List ℕ) (i : ℕ) → i ≤ 12 → 12 ≤ i → Filled off m keys i → Filled off m keys 12
-fill_done off m keys i h l f j k = f j (omega arith)

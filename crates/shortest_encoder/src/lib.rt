@@ -11,15 +11,13 @@ ghost use Rattle.list_first.specs.First.{is_first_of};
 ghost use Rattle.shortest_encoder.specs.Search.{best_of, string_in, stepped, search};
 ghost use Rattle.shortest_encoder.specs.Shortest.{shortest_answer};
 
-use encode_codes::Emitted;
-use encode_fields::Refusal;
 use encode_run::ByteRun;
 use list_spec::Parts;
-use mrc_compiler::encoder::{EncodeError, Encoded, InstructionData};
-use x86::{Instruction, Read};
+use mrc_compiler::encoder::{EncodeError, InstructionData};
+use x86::Instruction;
 
 // The lowest string so far, and its number.
-#[derive(Clone, Copy)]
+#[derive(Clone, Copy, Debug, PartialEq, Eq)]
 pub struct Best {
     run: ByteRun,
     key: u64,
@@ -70,12 +68,10 @@ fn shortest_of(offset: u16, insn: Instruction, own: ByteRun) -> ByteRun
         run: own,
         key: lister::key_of(own),
     };
-    let mut i: u8 = 0;
-    while i < 6 {
+    for i in 0..6 {
         if list_possible::is_possible(parts, i) {
             best = step(offset, insn, parts, best, i);
         }
-        i += 1;
     }
     best.run
 }
@@ -84,58 +80,37 @@ fn shortest_of(offset: u16, insn: Instruction, own: ByteRun) -> ByteRun
 fn is_first_run(run: ByteRun) -> bool
     ensures { result ≡ is_first_of run.bytes }
 {
-    list_first::is_first(
-        run.bytes[0],
-        run.bytes[1],
-        run.bytes[2],
-        run.bytes[3],
-        run.bytes[4],
-    )
+    let [b0, b1, b2, b3, b4, ..] = run.bytes;
+    list_first::is_first(b0, b1, b2, b3, b4)
 }
 
 // The shortest run of a record at an offset, or encode's refusal.
-pub fn shortest_run(insn: InstructionData, offset: u16) -> Emitted
+pub fn shortest_run(insn: InstructionData, offset: u16) -> Result<ByteRun, EncodeError>
     ensures { result ≡ emitted empty_run (shortest_answer insn offset) }
 {
-    let done = encoder::run_of(insn, offset);
-    let refusal = done.refusal;
-    let run = done.run;
-    match refusal {
-        Refusal::Because(_) => done,
-        Refusal::None => {
-            if is_first_run(run) {
-                return done;
-            }
-            match lister::read_run(run, offset) {
-                Read::Whole(own, _) => Emitted {
-                    refusal: Refusal::None,
-                    run: shortest_of(offset, own, run),
-                },
-                Read::Nothing => done,
-                Read::More => done,
-            }
-        }
+    let run = encoder::run_of(insn, offset)?;
+    if is_first_run(run) {
+        return Ok(run);
+    }
+    match lister::read_run(run, offset) {
+        Ok((own, _)) => Ok(shortest_of(offset, own, run)),
+        Err(_) => Ok(run),
     }
 }
 
 // As encode, with the first string of the record's listing.
-pub fn encode_shortest(insn: InstructionData, offset: u16, out: &mut [u8]) -> Encoded
+pub fn encode_shortest(
+    insn: InstructionData,
+    offset: u16,
+    out: &mut [u8],
+) -> Result<usize, EncodeError>
     ensures value { result ≡ outcome (shortest_answer insn offset) insn.opers_span out.old }
     ensures out_after { out.new ≡ slice_after (shortest_answer insn offset) out.old }
 {
-    let span = insn.opers_span;
-    let done = shortest_run(insn, offset);
-    let refusal = done.refusal;
-    let run = done.run;
-    match refusal {
-        Refusal::Because(e) => Encoded::Refused(e),
-        Refusal::None => {
-            let n = run.len;
-            if encoder::write_run(run, out) {
-                Encoded::Length(n)
-            } else {
-                Encoded::Refused(EncodeError::SliceTooShort(span))
-            }
-        }
+    let run = shortest_run(insn, offset)?;
+    if encoder::write_run(run, out) {
+        Ok(run.len)
+    } else {
+        Err(EncodeError::SliceTooShort(insn.opers_span))
     }
 }
