@@ -1,5 +1,6 @@
 -- The form read off the bytes that are written is that of the form chosen, and the question read off the refusal the first whose answer is no.
 -- Assumes nothing.
+use Rattle.std.specs.Prelude.{Option, Some, None}
 use mathlib.Core.Path.{◌≡◌, refl, sym, ◌∙◌, ap, subst}
 use mathlib.Core.Bool.{Bool, true, false}
 use mathlib.Core.List.{List, [], ◌∷◌, ◌++◌, Memᴰ}
@@ -17,32 +18,28 @@ use Rattle.mrc_compiler.specs.Choose.{pick, both, either, isnt}
 use Rattle.mrc_compiler.specs.Operations.{is_string}
 use Rattle.x86.specs.Forms.{Extension, Form, forms}
 use Rattle.x86.specs.Forms as F
-use Rattle.x86.specs.Reading.{starting_with, has_second, second_fits, digit, prefix, is_repeat}
+use Rattle.x86.specs.Reading.{starting_with, second_fits, digit, prefix, is_repeat}
 use Rattle.x86.proofs.Tests.{both_left, both_right, same, same_is, up_to, up_to_at, each_of, each_at, is_true}
 use Rattle.encode_groups.specs.declared.Group.{Group}
 use Rattle.encode_groups.specs.Grouping.{grouped_of, group_of}
 use Rattle.encode_run.specs.declared.ByteRun.{ByteRun}
 use Rattle.encode_run.specs.Run.{empty_run, appended}
-use Rattle.encode_codes.specs.declared.Emitted.{Emitted}
-use Rattle.encode_codes.specs.Emit.{emitted}
 use Rattle.encode_spec.specs.Records.{dst, src}
 use Rattle.encode_spec.specs.WellFormed.{repeat_formed}
 use Rattle.encode_spec.specs.Rules.{Special, ordinary, unordered, unordered_memory, by_count, target_first, not_supported, rule}
 use Rattle.encode_spec.specs.Choice.{Choice, none, straight, crossed, count_by, has_immediate}
-use Rattle.encode_spec.specs.Layout.{Part, prefix_bytes, part, layout}
+use Rattle.encode_spec.specs.Layout.{prefix_bytes, part, layout}
 use Rattle.encode_spec.specs.Questions.{chosen, questions}
 use Rattle.encode_spec.specs.Answer.{First, all_yes, no, first_no, bytes, refused, answered, written, record_bytes, answer}
 use Rattle.encode_spec.proofs.Values.{false-true, both_true}
-use Rattle.encode_spec.proofs.Slots.{by_field}
 use Rattle.encode_spec.proofs.Front.{second_bytes, among, no_prefix_byte}
 use Rattle.encode_spec.proofs.ReadBack.{Begun, string_in_order, begun, begun_opcode}
 use Rattle.encode_spec.proofs.Accepted.{gives_bytes, accepted_reads, Chosen, ChosenAs, chosen_is, repeat_yes, arranged_is, operation_is}
-use Rattle.encode_form.specs.declared.Limits.{Limits}
-use Rattle.encode_form.specs.declared.Limits.TheVariants as L
 use Rattle.encode_form.specs.declared.Ground.TheVariants as N
 use Rattle.encode_form.specs.declared.Written.{Written}
+use Rattle.encode_form.specs.declared.Limits.{Limits}
 use Rattle.encode_form.specs.Ground.{digit_of, limits_in, or_else, uses, written_by, written_as, ground_by, ground}
-use Rattle.encode_form.specs.ByBytes.{has_digit, digit_at, limits_by, operands_in, written_at, written_from, opcode_place, written_in, question_by}
+use Rattle.encode_form.specs.ByBytes.{has_digit, digit_at, limits_by, operands_in, written_at, opcode_place, written_in, question_by}
 use Rattle.encode_form.specs.Grounds.{bytes_by}
 use Rattle.encode_form.proofs.Questions.{told}
 
@@ -59,19 +56,19 @@ same_ℤ (pos m) (negsuc n) e = false-true e
 same_ℤ (negsuc m) (pos n) e = false-true e
 same_ℤ (negsuc m) (negsuc n) e = ap negsuc (eqb-true m n e)
 
-abbrev same_limits : Limits → Limits → Bool
-same_limits L.None L.None = true
-same_limits L.None (L.Between l h) = false
-same_limits (L.Between l h) L.None = false
-same_limits (L.Between l h) (L.Between m i) = both (sameℤ l m) (sameℤ h i)
+abbrev same_limits : Option Limits → Option Limits → Bool
+same_limits None None = true
+same_limits None (Some l) = false
+same_limits (Some l) None = false
+same_limits (Some l) (Some m) = both (sameℤ l.low m.low) (sameℤ l.high m.high)
 
-same_limits_lem : (a b : Limits) → T (same_limits a b) → a ≡ b
-same_limits_lem L.None L.None t = refl
-same_limits_lem L.None (L.Between l h) t = absurd t
-same_limits_lem (L.Between l h) L.None t = absurd t
-same_limits_lem (L.Between l h) (L.Between m i) t =
-    let (x, y) = both_true (sameℤ l m) (sameℤ h i) (is_true _ t) in
-    rw (same_ℤ l m x, same_ℤ h i y) refl
+same_limits_lem : (a b : Option Limits) → T (same_limits a b) → a ≡ b
+same_limits_lem None None t = refl
+same_limits_lem None (Some l) t = absurd t
+same_limits_lem (Some l) None t = absurd t
+same_limits_lem (Some l) (Some m) t =
+    let (x, y) = both_true (sameℤ l.low m.low) (sameℤ l.high m.high) (is_true _ t) in
+    ap Some (ap (λ (h : ℤ). record { low = l.low; high = h }) (same_ℤ l.high m.high y) ∙ ap (λ (k : ℤ). record { low = k; high = m.high }) (same_ℤ l.low m.low x))
 
 -- ---- the table: what each opcode has, as each of its forms has it
 abbrev is_digit : Extension → Bool
@@ -82,11 +79,11 @@ is_digit F./r = false
 is_digit (F./ n) = true
 is_digit F.0A = false
 
-abbrev limits_of : Group → Form → Limits
+abbrev limits_of : Group → Form → Option Limits
 limits_of g f = or_else (limits_in g f.first) (limits_in g f.second)
 
 -- the limits are those of the digit, and where there is none whatever stands there
-abbrev limits_fit : Extension → ℕ → Limits → Bool
+abbrev limits_fit : Extension → ℕ → Option Limits → Bool
 limits_fit F.no c l = both (same_limits (limits_by c true) l) (same_limits (limits_by c false) l)
 limits_fit F.+r c l = both (same_limits (limits_by c true) l) (same_limits (limits_by c false) l)
 limits_fit F.+s c l = both (same_limits (limits_by c true) l) (same_limits (limits_by c false) l)
@@ -113,11 +110,11 @@ digit_found F./r c x h s = rw h
 digit_found (F./ n) c x h s = rw (h, eqb-true (digit x) n s)
 digit_found F.0A c x h s = rw h
 
-whatever : (t : Bool) (c : ℕ) (l : Limits) → T (both (same_limits (limits_by c true) l) (same_limits (limits_by c false) l)) → limits_by c t ≡ l
+whatever : (t : Bool) (c : ℕ) (l : Option Limits) → T (both (same_limits (limits_by c true) l) (same_limits (limits_by c false) l)) → limits_by c t ≡ l
 whatever true c l h = same_limits_lem _ l (both_left (same_limits (limits_by c true) l) (same_limits (limits_by c false) l) h)
 whatever false c l h = same_limits_lem _ l (both_right (same_limits (limits_by c true) l) (same_limits (limits_by c false) l) h)
 
-limits_found : (e : Extension) (c x : ℕ) (l : Limits) → T (limits_fit e c l) → second_fits e x ≡ true → limits_by c (eqb (digit x) 0) ≡ l
+limits_found : (e : Extension) (c x : ℕ) (l : Option Limits) → T (limits_fit e c l) → second_fits e x ≡ true → limits_by c (eqb (digit x) 0) ≡ l
 limits_found F.no c x l h s = whatever (eqb (digit x) 0) c l h
 limits_found F.+r c x l h s = whatever (eqb (digit x) 0) c l h
 limits_found F.+s c x l h s = whatever (eqb (digit x) 0) c l h
@@ -264,10 +261,9 @@ module _ (insn : InstructionData) (off : ℕ) (h : off < 65536) where
       rw (y, ← w, choice_found (repeat_yes insn off y) (chosen insn) (chosen_is insn off y)) refl
 
   -- by the run that is emitted for its bytes
-  pub form_of_run : (d : Emitted) → d ≡ emitted empty_run (answer insn off) → (bs : List ℕ) → answer insn off ≡ bytes bs → ground insn off ≡ N.Form (written_in d.run.bytes insn)
-  form_of_run d hd bs e =
-      let r : appended empty_run bs ≡ d.run = sym (ap (λ (y : Emitted). y.run) (hd ∙ ap (emitted empty_run) e)) in
-      form_of_list bs e ∙ ap N.Form (sym (in_run bs insn (accepted_reads insn off h bs e).short) ∙ ap (λ (y : ByteRun). written_in y.bytes insn) r)
+  pub form_of_run : (run : ByteRun) (bs : List ℕ) → run ≡ appended empty_run bs → answer insn off ≡ bytes bs → ground insn off ≡ N.Form (written_in run.bytes insn)
+  form_of_run run bs r e =
+      form_of_list bs e ∙ ap N.Form (sym (in_run bs insn (accepted_reads insn off h bs e).short) ∙ ap (λ (y : ByteRun). written_in y.bytes insn) (sym r))
 
   pub question_of_refusal : (x : EncodeError) → answer insn off ≡ refused x → ground insn off ≡ N.Question (question_by x insn)
   unfolding answer ground

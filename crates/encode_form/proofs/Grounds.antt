@@ -7,15 +7,15 @@ use mathlib.Core.Logic.{◌⊎◌, inl, inr}
 use Prim.Native.Nat.{ℕ, ◌<◌}
 use native.Mathlib.Omega.{arith}
 use lib.Dec.{eqb}
-use lib.ListN.{length, get_or}
+use lib.ListN.{get_or}
 use borrow.Author.Tests.{eqb-true, eqb-false}
 use Rattle.mrc_compiler.specs.declared.encoder.InstructionData.{InstructionData}
 use Rattle.mrc_compiler.specs.declared.encoder.OperandData.{OperandData}
-use Rattle.mrc_compiler.specs.Choose.{pick, both, either, isnt}
+use Rattle.mrc_compiler.specs.Choose.{pick, either, isnt}
 use Rattle.x86_forms.specs.declared.FormName.{FormName}
 use Rattle.x86.specs.Forms.{Form}
 use Rattle.x86.specs.Forms as F
-use Rattle.x86.specs.Reading.{some, starting_with, fitting, has_second, prefix, repeats}
+use Rattle.x86.specs.Reading.{starting_with, fitting, has_second, prefix, repeats}
 use Rattle.x86.proofs.Repeats.{repeats_by}
 use Rattle.x86.proofs.Unambiguous.{at_90, second_agrees}
 use Rattle.encode_groups.specs.Grouping.{group_of}
@@ -25,15 +25,14 @@ use Rattle.encode_spec.specs.Layout.{prefix_bytes, layout}
 use Rattle.encode_spec.specs.Limits.{Asked}
 use Rattle.encode_spec.specs.Meaning.{meaning}
 use Rattle.encode_spec.specs.Questions.{chosen, questions}
-use Rattle.encode_spec.specs.Answer.{First, all_yes, no, first_no, answered, written, bytes, refused, answer}
-use Rattle.encode_spec.proofs.Front.{second_bytes, Begins, among, fits_alone, no_prefix_byte}
+use Rattle.encode_spec.specs.Answer.{First, all_yes, no, first_no, written, bytes, answer}
+use Rattle.encode_spec.proofs.Front.{second_bytes, among, fits_alone, no_prefix_byte}
 use Rattle.encode_spec.proofs.ReadBack.{Reads, Begun, begun, begun_opcode}
 use Rattle.encode_spec.proofs.Accepted.{Chosen, ChosenAs, chosen_is, arranged_is, operation_is, all_yes_reads}
 use Rattle.read_table.specs.Rows.{named, name_of}
-use Rattle.reader.specs.declared.Decoded.TheVariants.{Whole}
 use Rattle.reader.specs.Answer.{first_of, form_behind, form_plain, form_of, decoded}
 use Rattle.encode_form.specs.Ground.{written_by, written_as, ground_by, ground}
-use Rattle.encode_form.specs.Grounds.{are_all_yes, RefusedBy, ReadsBy, OperandsOf, bytes_by, WrittenIn, Grounded}
+use Rattle.encode_form.specs.Grounds.{are_all_yes, ReadsBy, OperandsOf, bytes_by, WrittenIn, Grounded}
 
 -- ---- the first no of a list: those before it get yes
 record Splits (qs : List Asked) (q : Asked) : Type 0 where

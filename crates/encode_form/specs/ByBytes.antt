@@ -1,7 +1,7 @@
 -- The form and the question as the code finds them: off the bytes that are written, and off the refusal. Nobody has to believe it: proofs/Found shows that they are
 -- those of Ground.
 -- Definitions only.
-use Rattle.std.specs.Prelude.{ℕ, suc, ◌/◌, ◌%◌, Bool, true, false, List, eqb, ltb, leb, get_or}
+use Rattle.std.specs.Prelude.{ℕ, suc, ◌/◌, ◌%◌, Bool, true, false, List, eqb, ltb, leb, get_or, Option, Some, None}
 use Rattle.mrc_compiler.specs.declared.encoder.EncodeError.{EncodeError}
 use Rattle.mrc_compiler.specs.declared.encoder.EncodeError.TheVariants as E
 use Rattle.mrc_compiler.specs.declared.encoder.InstructionData.{InstructionData}
@@ -12,10 +12,7 @@ use Rattle.encode_groups.specs.declared.Group.TheVariants as G
 use Rattle.encode_groups.specs.Grouping.{group_of}
 use Rattle.encode_spec.specs.Records.{dst}
 use Rattle.encode_spec.specs.Limits.{data_byte, data_word, sign_extended, vector, popped, target}
-use Rattle.encode_form.specs.declared.Digit.{Digit}
-use Rattle.encode_form.specs.declared.Digit.TheVariants as D
 use Rattle.encode_form.specs.declared.Limits.{Limits}
-use Rattle.encode_form.specs.declared.Limits.TheVariants as L
 use Rattle.encode_form.specs.declared.Written.{Written}
 use Rattle.encode_form.specs.Ground.{between}
 
@@ -25,17 +22,17 @@ has_digit c =
     pick (ltb c 0x80) false (pick (ltb c 0x84) true (pick (eqb c 0x8F) true (pick (ltb c 0xC6) false (pick (ltb c 0xC8) true
     (pick (ltb c 0xD0) false (pick (ltb c 0xD4) true (pick (ltb c 0xF6) false (pick (ltb c 0xF8) true (leb 0xFE c)))))))))
 
-abbrev pub digit_at : ℕ → ℕ → Digit
-digit_at c x = pick (has_digit c) (D.Is (digit x)) D.None
+abbrev pub digit_at : ℕ → ℕ → Option ℕ
+digit_at c x = pick (has_digit c) (Some (digit x)) None
 
 -- by the opcode's low bit
-abbrev pub data_limits : ℕ → Limits
+abbrev pub data_limits : ℕ → Option Limits
 data_limits c = pick (eqb (c % 2) 0) (between data_byte) (between data_word)
 
 -- 04, 05 .. 3C, 3D; 83; 80, 81; A8, A9; B0 to BF; C2; C6, C7; CD; E4 to E7; E8 to EB; F6 /0, F7 /0
-abbrev pub limits_by : ℕ → Bool → Limits
+abbrev pub limits_by : ℕ → Bool → Option Limits
 limits_by c digit_is_0 =
-    pick (ltb c 0x40) (pick (eqb (c % 8 / 2) 2) (data_limits c) L.None)
+    pick (ltb c 0x40) (pick (eqb (c % 8 / 2) 2) (data_limits c) None)
     (pick (eqb c 0x83) (between sign_extended)
     (pick (eqb (c / 2) 0x40) (data_limits c)
     (pick (eqb (c / 2) 0x54) (data_limits c)
@@ -46,7 +43,7 @@ limits_by c digit_is_0 =
     (pick (eqb c 0xCD) (between vector)
     (pick (eqb (c / 4) 0x39) (between vector)
     (pick (eqb (c / 4) 0x3A) (between target)
-    (pick (eqb (c / 2) 0x7B) (pick digit_is_0 (data_limits c) L.None) L.None)))))))))))
+    (pick (eqb (c / 2) 0x7B) (pick digit_is_0 (data_limits c) None) None)))))))))))
 
 -- the forms of a group use so many operands; of RET those of a record that counts none, or some
 abbrev pub operands_in : Group → Bool → ℕ

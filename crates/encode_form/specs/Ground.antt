@@ -1,6 +1,6 @@
 -- Why a record is answered as it is (REFERENCE 9): the form by which it is written, or the question that refused it.
 -- Definitions only.
-use Rattle.std.specs.Prelude.{ℕ, ◌+◌}
+use Rattle.std.specs.Prelude.{ℕ, ◌+◌, Option, Some, None}
 use Rattle.mrc_compiler.specs.declared.encoder.InstructionData.{InstructionData}
 use Rattle.mrc_compiler.specs.declared.encoder.OperandData.{OperandData}
 use Rattle.x86.specs.Forms.{Slot, rm, rm_near, mem, mem_far, reg, sreg, sreg_not_cs, acc, low3, bits34, bits34_not_cs, cl, dx, one, moffs, xlat, ib, iw, ib_sx, cb, cw, ptr, nil, Extension, Form}
@@ -14,65 +14,62 @@ use Rattle.encode_spec.specs.Layout.{part}
 use Rattle.encode_spec.specs.Limits.{Kind, sign_extended, target, limits, byte_kind, word_kind}
 use Rattle.encode_spec.specs.Questions.{chosen, questions}
 use Rattle.encode_spec.specs.Answer.{First, all_yes, no, first_no}
-use Rattle.encode_form.specs.declared.Digit.{Digit}
-use Rattle.encode_form.specs.declared.Digit.TheVariants as D
 use Rattle.encode_form.specs.declared.Limits.{Limits}
-use Rattle.encode_form.specs.declared.Limits.TheVariants as L
 use Rattle.encode_form.specs.declared.Written.{Written}
 use Rattle.encode_form.specs.declared.Ground.{Ground}
 use Rattle.encode_form.specs.declared.Ground.TheVariants as G
 
 -- the digit belongs to the opcode: the reg field of /r is an operand
-abbrev pub digit_of : Extension → Digit
-digit_of F.no = D.None
-digit_of F.+r = D.None
-digit_of F.+s = D.None
-digit_of F./r = D.None
-digit_of (F./ n) = D.Is n
-digit_of F.0A = D.None
+abbrev pub digit_of : Extension → Option ℕ
+digit_of F.no = None
+digit_of F.+r = None
+digit_of F.+s = None
+digit_of F./r = None
+digit_of (F./ n) = Some n
+digit_of F.0A = None
 
 -- ---- question 6's limits on an immediate
-abbrev pub between : Kind → Limits
-between k = L.Between (limits k).low (limits k).high
+abbrev pub between : Kind → Option Limits
+between k = Some (record { low = (limits k).low; high = (limits k).high })
 
 -- of a short target: only JMP's is asked about
-abbrev pub target_by : Special → Limits
-target_by ordinary = L.None
-target_by unordered = L.None
-target_by unordered_memory = L.None
-target_by by_count = L.None
+abbrev pub target_by : Special → Option Limits
+target_by ordinary = None
+target_by unordered = None
+target_by unordered_memory = None
+target_by by_count = None
 target_by target_first = between target
-target_by not_supported = L.None
+target_by not_supported = None
 
 -- an address is no immediate, and a far target has the limits of its offset
-abbrev pub limits_in : Group → Slot → Limits
-limits_in g (rm w) = L.None
-limits_in g rm_near = L.None
-limits_in g mem = L.None
-limits_in g mem_far = L.None
-limits_in g (reg w) = L.None
-limits_in g sreg = L.None
-limits_in g sreg_not_cs = L.None
-limits_in g (acc w) = L.None
-limits_in g (low3 w) = L.None
-limits_in g bits34 = L.None
-limits_in g bits34_not_cs = L.None
-limits_in g cl = L.None
-limits_in g dx = L.None
-limits_in g one = L.None
-limits_in g (moffs w) = L.None
-limits_in g xlat = L.None
+abbrev pub limits_in : Group → Slot → Option Limits
+limits_in g (rm w) = None
+limits_in g rm_near = None
+limits_in g mem = None
+limits_in g mem_far = None
+limits_in g (reg w) = None
+limits_in g sreg = None
+limits_in g sreg_not_cs = None
+limits_in g (acc w) = None
+limits_in g (low3 w) = None
+limits_in g bits34 = None
+limits_in g bits34_not_cs = None
+limits_in g cl = None
+limits_in g dx = None
+limits_in g one = None
+limits_in g (moffs w) = None
+limits_in g xlat = None
 limits_in g ib = between (byte_kind g)
 limits_in g iw = between (word_kind g)
 limits_in g ib_sx = between sign_extended
 limits_in g cb = target_by (rule g).special
 limits_in g cw = between target
 limits_in g ptr = between target
-limits_in g nil = L.None
+limits_in g nil = None
 
-abbrev pub or_else : Limits → Limits → Limits
-or_else L.None m = m
-or_else (L.Between l h) m = L.Between l h
+abbrev pub or_else : Option Limits → Option Limits → Option Limits
+or_else None m = m
+or_else (Some l) m = Some l
 
 -- ---- a form with a in its first slot and b in its second
 -- 0 for the slot of no operand. A form fills its slots from the first on, and so does a record its operands
@@ -112,7 +109,7 @@ written_by g f a b =
     }
 
 abbrev pub no_form : Written
-no_form = record { opcode = 0; digit = D.None; operands = 0; limits = L.None }
+no_form = record { opcode = 0; digit = None; operands = 0; limits = None }
 
 abbrev pub written_as : Group → Choice → OperandData → OperandData → Written
 written_as g none a b = no_form  -- never: question 5 has said no

@@ -1,6 +1,6 @@
 -- What a ground says of the record: proofs/Grounds has it for every record at every offset.
 -- Definitions only.
-use Rattle.std.specs.Prelude.{ℕ, Bool, true, false, ◌⊎◌, ◌≡◌, length}
+use Rattle.std.specs.Prelude.{ℕ, Bool, true, false, ◌⊎◌, ◌≡◌, length, Ok}
 use mathlib.Core.List.{List, [], ◌∷◌, ◌++◌, Memᴰ}
 use Rattle.mrc_compiler.specs.declared.encoder.InstructionData.{InstructionData}
 use Rattle.mrc_compiler.specs.declared.encoder.OperandData.{OperandData}
@@ -18,8 +18,7 @@ use Rattle.encode_spec.specs.Meaning.{meaning}
 use Rattle.encode_spec.specs.Questions.{questions}
 use Rattle.encode_spec.specs.Answer.{bytes, refused, answer}
 use Rattle.read_table.specs.Rows.{named, name_of}
-use Rattle.reader.specs.declared.Decoded.TheVariants.{Whole}
-use Rattle.reader.specs.Answer.{decoded}
+use Rattle.reader.specs.Answer.{reading, decoded}
 use Rattle.encode_form.specs.declared.Written.{Written}
 use Rattle.encode_form.specs.declared.Ground.{Ground}
 use Rattle.encode_form.specs.declared.Ground.TheVariants as G
@@ -42,7 +41,7 @@ pub record RefusedBy (insn : InstructionData) (off n : ℕ) : Type 0 where
 
 -- the string s reads, to the last byte, as the instruction m and by the form of that name
 abbrev pub ReadsBy : ℕ → List ℕ → Instruction → FormName → Type 0
-ReadsBy off s m f = decoded off s ≡ Whole m f (length s)
+ReadsBy off s m f = decoded off s ≡ Ok (reading m f (length s))
 
 -- the record's operands, as they stand or the other way round
 abbrev pub OperandsOf : InstructionData → OperandData → OperandData → Type 0

@@ -5,36 +5,28 @@ ghost use Rattle.std.specs.Prelude.{◌≡◌, ◌≤◌};
 ghost use Rattle.encode_form.specs.Ground.{ground};
 ghost use Rattle.encode_form.specs.ByBytes.{has_digit, digit_at, data_limits, limits_by, operands_in, opcode_place, written_in, question_by};
 
-use encode_fields::Refusal;
 use encode_groups::Group;
 use encode_run::ByteRun;
 use mrc_compiler::encoder::{EncodeError, InstructionData, OperandSize};
 
-// The n of /n, where the opcode has one.
-#[derive(Clone, Copy)]
-pub enum Digit {
-    None,
-    Is(u8),
+// Question 6's limits on an immediate.
+#[derive(Clone, Copy, Debug, PartialEq, Eq)]
+pub struct Limits {
+    pub low: i32,
+    pub high: i32,
 }
 
-// Question 6's limits on the immediate, where there is one.
-#[derive(Clone, Copy)]
-pub enum Limits {
-    None,
-    Between(i32, i32),
-}
-
-// A form as a record has it written: the opcode byte with the register in it, its digit, how many of the record's operands it uses, from the first on, and the limits.
-#[derive(Clone, Copy)]
+// A form as a record has it written: the opcode byte with the register in it, the n of /n where the opcode has one, how many of the record's operands it uses, from the first on, and the limits on its immediate, where there is one.
+#[derive(Clone, Copy, Debug, PartialEq, Eq)]
 pub struct Written {
     pub opcode: u8,
-    pub digit: Digit,
+    pub digit: Option<u8>,
     pub operands: u8,
-    pub limits: Limits,
+    pub limits: Option<Limits>,
 }
 
-// Why a record is answered as it is: the form of its bytes, or the number of the question that refused it.
-#[derive(Clone, Copy)]
+// Why a record is answered as it is: the form of its bytes, or the number of the question that refused it. No `Result`: a question is as good an answer as a form.
+#[derive(Clone, Copy, Debug, PartialEq, Eq)]
 pub enum Ground {
     Form(Written),
     Question(u8),
@@ -44,104 +36,72 @@ pub enum Ground {
 fn has_digit(opcode: u8) -> bool
     ensures { result ≡ has_digit opcode }
 {
-    if opcode < 0x80 {
-        return false;
-    }
-    if opcode < 0x84 {
-        return true;
-    }
-    if opcode == 0x8F {
-        return true;
-    }
-    if opcode < 0xC6 {
-        return false;
-    }
-    if opcode < 0xC8 {
-        return true;
-    }
-    if opcode < 0xD0 {
-        return false;
-    }
-    if opcode < 0xD4 {
-        return true;
-    }
-    if opcode < 0xF6 {
-        return false;
-    }
-    if opcode < 0xF8 {
-        return true;
-    }
-    0xFE <= opcode
+    matches!(
+        opcode,
+        0x80..=0x83 | 0x8F | 0xC6 | 0xC7 | 0xD0..=0xD3 | 0xF6 | 0xF7 | 0xFE..
+    )
 }
 
-fn digit_of(opcode: u8, modrm: u8) -> Digit
+fn digit_of(opcode: u8, modrm: u8) -> Option<u8>
     ensures { result ≡ digit_at opcode modrm }
 {
     if has_digit(opcode) {
-        Digit::Is(modrm / 8 % 8)
+        Some(modrm / 8 % 8)
     } else {
-        Digit::None
+        None
     }
 }
 
+const DATA_BYTE: Limits = Limits {
+    low: -128,
+    high: 255,
+};
+
+const DATA_WORD: Limits = Limits {
+    low: -32768,
+    high: 65535,
+};
+
+const SIGN_EXTENDED: Limits = Limits {
+    low: -128,
+    high: 127,
+};
+
+// Of a vector and of a port.
+const BYTE: Limits = Limits { low: 0, high: 255 };
+
+// Of a near target, a far one's offset and what RET takes off the stack.
+const WORD: Limits = Limits {
+    low: 0,
+    high: 65535,
+};
+
 // The limits of a byte or word of data, by the opcode's low bit.
-fn data_limits(opcode: u8) -> Limits
+fn data_limits(opcode: u8) -> Option<Limits>
     ensures { result ≡ data_limits opcode }
 {
     if opcode % 2 == 0 {
-        Limits::Between(-128, 255)
+        Some(DATA_BYTE)
     } else {
-        Limits::Between(-32768, 65535)
+        Some(DATA_WORD)
     }
 }
 
 // The limits of an opcode's immediate; of F6 and F7 only TEST, whose digit is 0, has one.
-fn limits_of(opcode: u8, digit_is_0: bool) -> Limits
+fn limits_of(opcode: u8, digit_is_0: bool) -> Option<Limits>
     ensures { result ≡ limits_by opcode digit_is_0 }
 {
-    if opcode < 0x40 {
-        if opcode % 8 / 2 == 2 {
-            return data_limits(opcode);
-        }
-        return Limits::None;
+    match opcode {
+        0x00..=0x3F if opcode % 8 / 2 == 2 => data_limits(opcode),
+        0x80 | 0x81 | 0xA8 | 0xA9 | 0xC6 | 0xC7 => data_limits(opcode),
+        0xF6 | 0xF7 if digit_is_0 => data_limits(opcode),
+        0x83 => Some(SIGN_EXTENDED),
+        0xB0..=0xB7 => Some(DATA_BYTE),
+        0xB8..=0xBF => Some(DATA_WORD),
+        0xC2 | 0xE8..=0xEB => Some(WORD),
+        0xCD | 0xE4..=0xE7 => Some(BYTE),
+        _ => None,
     }
-    if opcode == 0x83 {
-        return Limits::Between(-128, 127);
-    }
-    if opcode / 2 == 0x40 {
-        return data_limits(opcode);
-    }
-    if opcode / 2 == 0x54 {
-        return data_limits(opcode);
-    }
-    if opcode / 8 == 0x16 {
-        return Limits::Between(-128, 255);
-    }
-    if opcode / 8 == 0x17 {
-        return Limits::Between(-32768, 65535);
-    }
-    if opcode == 0xC2 {
-        return Limits::Between(0, 65535);
-    }
-    if opcode / 2 == 0x63 {
-        return data_limits(opcode);
-    }
-    if opcode == 0xCD {
-        return Limits::Between(0, 255);
-    }
-    if opcode / 4 == 0x39 {
-        return Limits::Between(0, 255);
-    }
-    if opcode / 4 == 0x3A {
-        return Limits::Between(0, 65535);
-    }
-    if opcode / 2 == 0x7B {
-        if digit_is_0 {
-            return data_limits(opcode);
-        }
-        return Limits::None;
-    }
-    Limits::None
 }
 
 // How many operands the forms of a group use; of RET those of a record that counts none, or some.
@@ -149,31 +109,12 @@ fn operands_of(group: Group, counts_none: bool) -> u8
     ensures { result ≡ operands_in group counts_none }
 {
     match group {
-        Group::Arithmetic => 2,
-        Group::Unary => 1,
-        Group::Mov => 2,
-        Group::Test => 2,
-        Group::Xchg => 2,
-        Group::IncDec => 1,
-        Group::Push => 1,
-        Group::Pop => 1,
+        Group::Arithmetic | Group::Mov | Group::Test | Group::Xchg => 2,
+        Group::Lea | Group::LesLds | Group::Shift | Group::In | Group::Out => 2,
+        Group::Unary | Group::IncDec | Group::Push | Group::Pop => 1,
+        Group::Call | Group::Jmp | Group::Jcc | Group::Loopc | Group::Int | Group::Xlat => 1,
         Group::Ret => if counts_none { 0 } else { 1 },
-        Group::Lea => 2,
-        Group::LesLds => 2,
-        Group::Shift => 2,
-        Group::Call => 1,
-        Group::Jmp => 1,
-        Group::Jcc => 1,
-        Group::Loopc => 1,
-        Group::NoOperands => 0,
-        Group::Prefixes => 0,
-        Group::Int => 1,
-        Group::Aam => 0,
-        Group::Aad => 0,
-        Group::Xlat => 1,
-        Group::In => 2,
-        Group::Out => 2,
-        Group::Unsupported => 0,
+        Group::NoOperands | Group::Prefixes | Group::Aam | Group::Aad | Group::Unsupported => 0,
     }
 }
 
@@ -193,11 +134,8 @@ fn opcode_place(repeat: u8, first: u8) -> usize
 pub fn written_in(run: ByteRun, insn: InstructionData) -> Written
     ensures { result ≡ written_in run.bytes insn }
 {
-    let operation = insn.operation;
-    let grouped = encode_groups::group_of(operation);
-    let group = grouped.group;
-    let first = run.bytes[0];
-    let at = opcode_place(insn.repeat, first);
+    let group = encode_groups::group_of(insn.operation).group;
+    let at = opcode_place(insn.repeat, run.bytes[0]);
     let opcode = run.bytes[at];
     let modrm = run.bytes[at + 1];
     Written {
@@ -212,14 +150,12 @@ pub fn written_in(run: ByteRun, insn: InstructionData) -> Written
 pub fn question_of(error: EncodeError, insn: InstructionData) -> u8
     ensures { result ≡ question_by error insn }
 {
-    let dst = insn.opers[0];
-    let size = dst.size;
     match error {
         EncodeError::NotWellFormed(_) => 1,
         EncodeError::InvalidRepeat(_) => 1,
         EncodeError::NotSupported(_) => 2,
         EncodeError::OperandSizeNotSpecified(_) => 3,
-        EncodeError::InvalidOperandSize(_) => match size {
+        EncodeError::InvalidOperandSize(_) => match insn.opers[0].size {
             OperandSize::Unspecified => 3,
             OperandSize::Byte => 3,
             OperandSize::Word => 5,
@@ -236,11 +172,8 @@ pub fn question_of(error: EncodeError, insn: InstructionData) -> u8
 pub fn ground_of(insn: InstructionData, offset: u16) -> Ground
     ensures { result ≡ ground insn offset }
 {
-    let done = encoder::run_of(insn, offset);
-    let refusal = done.refusal;
-    let run = done.run;
-    match refusal {
-        Refusal::Because(e) => Ground::Question(question_of(e, insn)),
-        Refusal::None => Ground::Form(written_in(run, insn)),
+    match encoder::run_of(insn, offset) {
+        Err(e) => Ground::Question(question_of(e, insn)),
+        Ok(run) => Ground::Form(written_in(run, insn)),
     }
 }

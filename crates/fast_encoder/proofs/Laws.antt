@@ -10,16 +10,15 @@ use lib.ListN.{length, get_or, take, drop, length-drop}
 use lib.Seq.{take_all}
 use borrow.Author.Tests.{lt-ltb, le-leb, le-ltb, eq-eqb, ne_eqb, eqb-false}
 use Rattle.mrc_compiler.specs.declared.ast.Span.{Span}
-use Rattle.mrc_compiler.specs.declared.encoder.JumpKind.TheVariants as J
 use Rattle.mrc_compiler.specs.declared.encoder.OperandKind.TheVariants as K
 use Rattle.mrc_compiler.specs.declared.encoder.OperandSize.TheVariants as S
 use Rattle.mrc_compiler.specs.declared.encoder.OperandData.{OperandData}
 use Rattle.mrc_compiler.specs.declared.encoder.InstructionData.{InstructionData}
 use Rattle.mrc_compiler.specs.declared.encoder.generate.Code.{Code}
 use Rattle.mrc_compiler.specs.declared.encoder.generate.Code.TheVariants as C
-use Rattle.mrc_compiler.specs.declared.encoder.generate.Plan.{Plan}
-use Rattle.mrc_compiler.specs.declared.encoder.generate.Plan.TheVariants as P
-use Rattle.mrc_compiler.specs.declared.ast.OptionDataSize.TheVariants as OZ
+use Rattle.std.specs.Prelude.{Option, Some, None, Result, Ok, Err}
+use Rattle.mrc_compiler.specs.declared.encoder.generate.Codes.{Codes}
+use Rattle.mrc_compiler.specs.declared.encoder.generate.NoForm.{NoForm}
 use Rattle.mrc_compiler.specs.declared.operations.Operation.{Operation}
 use Rattle.mrc_compiler.specs.declared.operations.Operation.TheVariants as Op
 use Rattle.mrc_compiler.specs.declared.encoder.EncodeError.{EncodeError}
@@ -28,7 +27,6 @@ use Rattle.mrc_compiler.specs.Operations.{operations, number_of, is_string}
 use Rattle.mrc_compiler.specs.Builders.{instruction, with_repeat}
 use Rattle.x86.specs.Reading.{is_repeat}
 use Rattle.x86.proofs.Tests.{up_to, up_to_at, is_true}
-use Rattle.encode_groups.specs.declared.Group.{Group}
 use Rattle.encode_groups.specs.declared.Group.TheVariants as G
 use Rattle.encode_groups.specs.Grouping.{group_of, base_of}
 use Rattle.encode_spec.specs.WellFormed.{well_formed, repeat_formed}
@@ -37,14 +35,14 @@ use Rattle.mrc_compiler.specs.declared.ast.DataSize.{DataSize}
 use Rattle.mrc_compiler.specs.declared.ast.DataSize.TheVariants as Z
 use Rattle.encode_lines.specs.declared.Line.{Line}
 use Rattle.encode_lines.specs.Lines.{bit, planned}
-use Rattle.encode_plans.specs.declared.Common.TheVariants as M
 use Rattle.encode_plans.specs.Sizes.{common_of, stated_size}
 use Rattle.encode_plans.specs.Decisions.{decision_in}
 use Rattle.encode_dispatch.proofs.Laws.{planned_of}
 use Rattle.encode_fields.specs.Fields.{code_answer}
+use Rattle.encode_codes.specs.Emit.{codes_answer}
 use Rattle.encoder.specs.Coded.{plan_answer, behind_repeat, coded}
 use Rattle.encoder.proofs.Tied.{tied}
-use Rattle.show_record.specs.Record.{kinds, sizes, jump_kinds, repeat_in, byte_at, span_at, size_at, jump_kind_at, operation_at, operand_at, instruction_at, operand_known, codes_known}
+use Rattle.show_record.specs.Record.{kinds, sizes, jump_kinds, byte_at, span_at, size_at, jump_kind_at, operation_at, operand_at, instruction_at, operand_known, codes_known}
 use Rattle.fast_run.specs.Packed.{digits, unpacked}
 use Rattle.fast_rows.specs.Rows.{groups, rows, no_row, commons, data_of}
 use Rattle.fast_rows.proofs.Laws.{row_is, group_at, common_is, common_small}
@@ -156,7 +154,7 @@ sixteen s code h row lo e m l a b =
 
 -- ---- the sizes
 pub common_at : (s : List ℕ) → Ready s → (size : ℕ) → (0 < size → size ≡ get_or commons (3 * byte_at s 11 + byte_at s 34) 0) → 0 < size
-    → common_of (operand_at s 10).size (operand_at s 33).size ≡ M.Is (data_of size)
+    → common_of (operand_at s 10).size (operand_at s 33).size ≡ Ok (data_of size)
 unfolding operand_at
 common_at s h size e p =
     common_is (byte_at s 11) (byte_at s 34) h.first.size h.second.size (rw (e p) at p) ∙ rw (← (e p))
@@ -168,19 +166,19 @@ small (suc k) n e = rw (e (omega arith)) (common_small n)
 pub size_small : (s : List ℕ) → Ready s → (size : ℕ) → (0 < size → size ≡ get_or commons (3 * byte_at s 11 + byte_at s 34) 0) → size ≤ 2
 size_small s h size e = small size (3 * byte_at s 11 + byte_at s 34) e
 
-pub stated_is : (n : ℕ) → 0 < n → n < 3 → stated_size (get_or sizes n S.Unspecified) ≡ OZ.Some (data_of n)
-stated_is zero p h = absurd (omega arith)
-stated_is (suc zero) p h = refl
-stated_is (suc (suc zero)) p h = refl
-stated_is (suc (suc (suc n))) p h = absurd (omega arith)
+pub stated_is : (n : ℕ) → 0 < n → n < 3 → (e : NoForm) → stated_size (get_or sizes n S.Unspecified) e ≡ Ok (data_of n)
+stated_is zero p h e = absurd (omega arith)
+stated_is (suc zero) p h e = refl
+stated_is (suc (suc zero)) p h e = refl
+stated_is (suc (suc (suc n))) p h e = absurd (omega arith)
 
-pub stated_at : (s : List ℕ) → Ready s → 0 < byte_at s 11 → stated_size (operand_at s 10).size ≡ OZ.Some (data_of (byte_at s 11))
+pub stated_at : (s : List ℕ) → Ready s → 0 < byte_at s 11 → (e : NoForm) → stated_size (operand_at s 10).size e ≡ Ok (data_of (byte_at s 11))
 unfolding operand_at
-stated_at s h p = stated_is (byte_at s 11) p h.first.size
+stated_at s h p e = stated_is (byte_at s 11) p h.first.size e
 
-pub stated_second : (s : List ℕ) → Ready s → 0 < byte_at s 34 → stated_size (operand_at s 33).size ≡ OZ.Some (data_of (byte_at s 34))
+pub stated_second : (s : List ℕ) → Ready s → 0 < byte_at s 34 → (e : NoForm) → stated_size (operand_at s 33).size e ≡ Ok (data_of (byte_at s 34))
 unfolding operand_at
-stated_second s h p = stated_is (byte_at s 34) p h.second.size
+stated_second s h p e = stated_is (byte_at s 34) p h.second.size e
 
 pub one_left : (n : ℕ) → 0 < n → n < 3 → (n ≡ 2 → ⊥) → n ≡ 1
 one_left zero p h e = absurd (omega arith)
@@ -207,7 +205,7 @@ not_byte (suc (suc zero)) l m h e = refl
 not_byte (suc (suc (suc n))) l m h e = absurd (omega arith)
 
 -- ---- the jump kinds: None and Near; None and Short
-pub near_jump : {A : Type 0} (n : ℕ) (l f t : A) → n < 4 → (n ≡ 1 → ⊥) → (n ≡ 3 → ⊥) → by_jump (get_or jump_kinds n J.None) l f l t ≡ l
+pub near_jump : {A : Type 0} (n : ℕ) (l f t : A) → n < 4 → (n ≡ 1 → ⊥) → (n ≡ 3 → ⊥) → by_jump (get_or jump_kinds n None) l f l t ≡ l
 near_jump zero l f t h a b = refl
 near_jump (suc zero) l f t h a b = absurd (a refl)
 near_jump (suc (suc zero)) l f t h a b = refl
@@ -215,12 +213,12 @@ near_jump (suc (suc (suc zero))) l f t h a b = absurd (b refl)
 near_jump (suc (suc (suc (suc n)))) l f t h a b = absurd (omega arith)
 
 -- through a register or memory that holds an offset
-pub through_is : (s : List ℕ) → Ready s → Through s → (l f t x : Line)
+pub through_is : (s : List ℕ) → Ready s → Through s → (l f t x : Result Line NoForm)
     → by_jump (jump_kind_at s 14) (by_size (size_at s 11) l x l) f (by_size (size_at s 11) l x l) t ≡ l
 through_is s h t l f g x =
     near_jump (byte_at s 14) _ f g h.first.jump t.not_far t.not_short ∙ not_byte (byte_at s 11) l x h.first.size t.not_byte
 
-pub short_jump : {A : Type 0} (n : ℕ) (l f t : A) → n < 4 → (n ≡ 1 → ⊥) → (n ≡ 2 → ⊥) → by_jump (get_or jump_kinds n J.None) l f t l ≡ l
+pub short_jump : {A : Type 0} (n : ℕ) (l f t : A) → n < 4 → (n ≡ 1 → ⊥) → (n ≡ 2 → ⊥) → by_jump (get_or jump_kinds n None) l f t l ≡ l
 short_jump zero l f t h a b = refl
 short_jump (suc zero) l f t h a b = absurd (a refl)
 short_jump (suc (suc zero)) l f t h a b = absurd (b refl)
@@ -293,9 +291,13 @@ module _ (p q m n off : ℕ) (sp sq : Span) (o w : Operation) (a b : OperandData
   code_same (C.RelWord k) = refl
   code_same (C.FarWords k) = refl
 
-  plan_same : (plan : Plan) (bs : List ℕ) → plan_answer plan i off ≡ bytes bs → plan_answer plan j off ≡ bytes bs
-  plan_same (P.Emit codes) bs e = rw (← (code_same codes.first), ← (code_same codes.second)) e
-  plan_same (P.Refused why at) bs e = absurd (refused_no _ bs e)
+  codes_same : (c : Code) (d : Option Code) → codes_answer (record { first = c; second = d }) i off ≡ codes_answer (record { first = c; second = d }) j off
+  codes_same c None = code_same c
+  codes_same c (Some d) = rw (← (code_same c), ← (code_same d))
+
+  plan_same : (plan : Result Codes NoForm) (bs : List ℕ) → plan_answer plan i off ≡ bytes bs → plan_answer plan j off ≡ bytes bs
+  plan_same (Ok codes) bs e = sym (codes_same codes.first codes.second) ∙ e
+  plan_same (Err x) bs e = absurd (refused_no _ bs e)
 
 -- an instruction that question 1 lets through: its plan's bytes, behind its repeat
 module _ (p n off : ℕ) (sp : Span) (op : Operation) (a b : OperandData) where

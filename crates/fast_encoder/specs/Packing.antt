@@ -1,6 +1,6 @@
 -- What a packed run says of its bytes: they are a record, its codes are known, and its answer is these bytes.
 -- Definitions only.
-use Rattle.std.specs.Prelude.{ℕ, ◌<◌, ◌≡◌, true, false, List, [], ◌∷◌, eqb, length, get_or}
+use Rattle.std.specs.Prelude.{ℕ, ◌<◌, ◌≡◌, true, false, List, [], ◌∷◌, eqb, length, get_or, Result}
 use Rattle.mrc_compiler.specs.declared.operations.Operation.TheVariants as Op
 use Rattle.mrc_compiler.specs.Operations.{operations}
 use Rattle.encode_groups.specs.declared.Group.TheVariants as G
@@ -8,6 +8,7 @@ use Rattle.encode_groups.specs.Grouping.{group_of, base_of}
 use Rattle.encode_spec.specs.WellFormed.{repeat_formed}
 use Rattle.encode_spec.specs.Answer.{Answer, bytes, answer}
 use Rattle.mrc_compiler.specs.declared.ast.DataSize.{DataSize}
+use Rattle.mrc_compiler.specs.declared.encoder.generate.NoForm.{NoForm}
 use Rattle.encode_lines.specs.declared.Line.{Line}
 use Rattle.encode_lines.specs.Lines.{decision, planned}
 use Rattle.encode_plans.specs.Decisions.{decision_in}
@@ -27,7 +28,7 @@ pub record Through (s : List ℕ) : Type 0 where
   pub not_byte : byte_at s 11 ≡ 1 → ⊥
 
 -- what a line of the table answers for a record
-abbrev pub line_at : List ℕ → ℕ → Line → DataSize → ℕ → Answer
+abbrev pub line_at : List ℕ → ℕ → Result Line NoForm → DataSize → ℕ → Answer
 line_at s off l z base = plan_answer (planned (decision l z) base) (instruction_at s) off
 
 -- what the plan of an operation's group answers for a record's operands

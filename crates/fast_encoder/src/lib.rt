@@ -1,13 +1,13 @@
 // A faster way to an answer's bytes: off the record's own bytes into one number. Where it has none the encoder is asked, which gives every refusal.
 #![tactic(auto)]
 
-ghost use Rattle.std.specs.Prelude.{◌≡◌, true, false, [], ◌∷◌, ℕ, ◌+◌, ◌≤◌, ◌<◌, eqb, pos};
+ghost use Rattle.std.specs.Prelude.{◌≡◌, true, false, [], ◌∷◌, ℕ, ◌+◌, ◌≤◌, ◌<◌, eqb, pos, Ok, Err};
 ghost use Rattle.mrc_compiler.specs.Builders.{is_direct_address};
 ghost use Rattle.mrc_compiler.specs.Choose.{pick, both, by_jump};
 ghost use Rattle.mrc_compiler.specs.Values.{within};
 ghost use Rattle.mrc_compiler.specs.declared.ast.DataSize.TheVariants as Z;
 ghost use Rattle.mrc_compiler.specs.declared.encoder.generate.Code.TheVariants as C;
-ghost use Rattle.encode_lines.specs.Lines.{bit, one_code, two_codes};
+ghost use Rattle.encode_lines.specs.Lines.{bit, one_code, two_codes, invalid_operands, target_out_of_range};
 ghost use Rattle.encode_lines.specs.declared.Line.TheVariants as L;
 ghost use Rattle.encode_plans.specs.Decisions.{by_data, takes_byte, sreg_form, is_ax, through_form, far_form};
 ghost use Rattle.encode_plans.specs.Sizes.{is_cl, is_bx};
@@ -23,7 +23,7 @@ use show_record::{COUNT, FIRST, IMM, JUMP_KIND, KIND, MODE, OPERATION, REPEAT, R
 // ADD to CMP with an immediate. acc: the first operand is the accumulator.
 fn arithmetic_imm(rec: &[u8], base: u8, size: u8, acc: bool) -> u64
     requires { Ready rec.now × ((size ≤ 2) × (base < 64)) }
-    ensures { (off : ℕ) → Sized size result (line_at rec.now off (pick (takes_byte (data_of size) (i32_at rec.now 40)) L.ArithRmImmSx (pick acc L.ArithAccImm L.ArithRmImm)) (data_of size) base) }
+    ensures { (off : ℕ) → Sized size result (line_at rec.now off (pick (takes_byte (data_of size) (i32_at rec.now 40)) (Ok L.ArithRmImmSx) (pick acc (Ok L.ArithAccImm) (Ok L.ArithRmImm))) (data_of size) base) }
 {
     if size == 2 {
         if fast_value::in_range(show_record::u32_at(rec, SECOND + IMM), 128, 256) {
@@ -43,7 +43,7 @@ fn arithmetic_imm(rec: &[u8], base: u8, size: u8, acc: bool) -> u64
 // MOV from memory into a register.
 fn mov_from(rec: &[u8], size: u8) -> u64
     requires { Ready rec.now × (size ≤ 2) }
-    ensures { (off : ℕ) → Sized size result (line_at rec.now off (pick (both (eqb (byte_at rec.now 16) 0) (is_direct_address (byte_at rec.now 38) (byte_at rec.now 39))) L.MovAccMoffs L.MovRegRm) (data_of size) 0) }
+    ensures { (off : ℕ) → Sized size result (line_at rec.now off (pick (both (eqb (byte_at rec.now 16) 0) (is_direct_address (byte_at rec.now 38) (byte_at rec.now 39))) (Ok L.MovAccMoffs) (Ok L.MovRegRm)) (data_of size) 0) }
 {
     if encode_plans::is_acc_direct(rec[FIRST + RM], rec[SECOND + MODE], rec[SECOND + RM]) {
         return fast_forms::moffs_run(rec, SECOND, 0xA0, size);
@@ -54,7 +54,7 @@ fn mov_from(rec: &[u8], size: u8) -> u64
 // MOV from a register into memory.
 fn mov_into(rec: &[u8], size: u8) -> u64
     requires { Ready rec.now × (size ≤ 2) }
-    ensures { (off : ℕ) → Sized size result (line_at rec.now off (pick (both (eqb (byte_at rec.now 39) 0) (is_direct_address (byte_at rec.now 15) (byte_at rec.now 16))) L.MovMoffsAcc L.MovRmReg) (data_of size) 0) }
+    ensures { (off : ℕ) → Sized size result (line_at rec.now off (pick (both (eqb (byte_at rec.now 39) 0) (is_direct_address (byte_at rec.now 15) (byte_at rec.now 16))) (Ok L.MovMoffsAcc) (Ok L.MovRmReg)) (data_of size) 0) }
 {
     if encode_plans::is_acc_direct(rec[SECOND + RM], rec[FIRST + MODE], rec[FIRST + RM]) {
         return fast_forms::moffs_run(rec, FIRST, 0xA2, size);
@@ -76,7 +76,7 @@ fn mov_sreg(rec: &[u8], size: u8) -> u64
 // MOV into a segment register, never CS.
 fn mov_into_sreg(rec: &[u8], size: u8) -> u64
     requires { Ready rec.now }
-    ensures { (off : ℕ) → Sized size result (line_at rec.now off (by_data (data_of size) L.InvalidOperands (pick (eqb (byte_at rec.now 16) 1) L.InvalidOperands L.MovSregRm)) (data_of size) 0) }
+    ensures { (off : ℕ) → Sized size result (line_at rec.now off (by_data (data_of size) (Err invalid_operands) (pick (eqb (byte_at rec.now 16) 1) (Err invalid_operands) (Ok L.MovSregRm))) (data_of size) 0) }
 {
     if size != 2 {
         return 0;
@@ -90,7 +90,7 @@ fn mov_into_sreg(rec: &[u8], size: u8) -> u64
 // TEST of a register with an immediate.
 fn test_imm(rec: &[u8], size: u8) -> u64
     requires { Ready rec.now × (size ≤ 2) }
-    ensures { (off : ℕ) → Sized size result (line_at rec.now off (pick (eqb (byte_at rec.now 16) 0) L.TestAccImm L.TestRmImm) (data_of size) 0) }
+    ensures { (off : ℕ) → Sized size result (line_at rec.now off (pick (eqb (byte_at rec.now 16) 0) (Ok L.TestAccImm) (Ok L.TestRmImm)) (data_of size) 0) }
 {
     if rec[FIRST + RM] == 0 {
         return fast_forms::bare_imm(rec, 0xA8, size);
@@ -101,7 +101,7 @@ fn test_imm(rec: &[u8], size: u8) -> u64
 // XCHG of two registers: AX has a form of its own.
 fn xchg_regs(rec: &[u8], size: u8) -> u64
     requires { Ready rec.now × (size ≤ 2) }
-    ensures { (off : ℕ) → Sized size result (line_at rec.now off (pick (is_ax (data_of size) (byte_at rec.now 16)) L.XchgAccReg (pick (is_ax (data_of size) (byte_at rec.now 39)) L.XchgRegAcc L.XchgRegRm)) (data_of size) 0) }
+    ensures { (off : ℕ) → Sized size result (line_at rec.now off (pick (is_ax (data_of size) (byte_at rec.now 16)) (Ok L.XchgAccReg) (pick (is_ax (data_of size) (byte_at rec.now 39)) (Ok L.XchgRegAcc) (Ok L.XchgRegRm))) (data_of size) 0) }
 {
     if size == 2 {
         if rec[FIRST + RM] == 0 {
@@ -155,7 +155,7 @@ fn load_run(rec: &[u8], base: u8) -> u64
 // A shift by 1.
 fn shift_one(rec: &[u8], base: u8, size: u8) -> u64
     requires { Ready rec.now × ((size ≤ 2) × (base < 8)) }
-    ensures { (off : ℕ) → Sized size result (line_at rec.now off (pick (within (pos 1) (pos 1) (i32_at rec.now 40)) L.ShiftRmOne L.InvalidOperands) (data_of size) base) }
+    ensures { (off : ℕ) → Sized size result (line_at rec.now off (pick (within (pos 1) (pos 1) (i32_at rec.now 40)) (Ok L.ShiftRmOne) (Err invalid_operands)) (data_of size) base) }
 {
     if show_record::u32_at(rec, SECOND + IMM) != 1 {
         return 0;
@@ -166,7 +166,7 @@ fn shift_one(rec: &[u8], base: u8, size: u8) -> u64
 // A shift by CL.
 fn shift_cl(rec: &[u8], base: u8, size: u8) -> u64
     requires { Ready rec.now × ((size ≤ 2) × (base < 8)) }
-    ensures { (off : ℕ) → Sized size result (line_at rec.now off (pick (is_cl (size_at rec.now 34) (byte_at rec.now 39)) L.ShiftRmCl L.InvalidOperands) (data_of size) base) }
+    ensures { (off : ℕ) → Sized size result (line_at rec.now off (pick (is_cl (size_at rec.now 34) (byte_at rec.now 39)) (Ok L.ShiftRmCl) (Err invalid_operands)) (data_of size) base) }
 {
     if rec[SECOND + SIZE] != 1 {
         return 0;
@@ -180,7 +180,7 @@ fn shift_cl(rec: &[u8], base: u8, size: u8) -> u64
 // CALL of an offset.
 fn call_near(rec: &[u8], offset: u16) -> u64
     requires { Ready rec.now }
-    ensures { Gives result (line_at rec.now offset (by_jump (jump_kind_at rec.now 14) L.CallRel L.InvalidOperands L.CallRel L.InvalidOperands) Z.Word 0) }
+    ensures { Gives result (line_at rec.now offset (by_jump (jump_kind_at rec.now 14) (Ok L.CallRel) (Err invalid_operands) (Ok L.CallRel) (Err invalid_operands)) Z.Word 0) }
 {
     if rec[FIRST + JUMP_KIND] == 1 {
         return 0;
@@ -211,7 +211,7 @@ fn through(rec: &[u8], digit: u8) -> u64
 // CALL through memory, which may hold a far target.
 fn call_memory(rec: &[u8]) -> u64
     requires { Ready rec.now }
-    ensures { (off : ℕ) → Gives result (line_at rec.now off (through_form L.CallRm (jump_kind_at rec.now 14) (size_at rec.now 11) (far_form (size_at rec.now 11)) L.InvalidOperands) Z.Word 0) }
+    ensures { (off : ℕ) → Gives result (line_at rec.now off (through_form (Ok L.CallRm) (jump_kind_at rec.now 14) (size_at rec.now 11) (far_form (size_at rec.now 11)) (Err invalid_operands)) Z.Word 0) }
 {
     if rec[FIRST + JUMP_KIND] == 1 {
         if rec[FIRST + SIZE] == 1 {
@@ -225,7 +225,7 @@ fn call_memory(rec: &[u8]) -> u64
 // JMP to an offset or to a far target. The target's range is asked before the kind of jump.
 fn jmp_imm(rec: &[u8], offset: u16) -> u64
     requires { Ready rec.now }
-    ensures { Gives result (line_at rec.now offset (pick (within (pos 0) (pos 65535) (i32_at rec.now 17)) (by_jump (jump_kind_at rec.now 14) L.JmpRel L.JmpPtr L.JmpRel L.JmpShort) L.TargetOutOfRange) Z.Word 0) }
+    ensures { Gives result (line_at rec.now offset (pick (within (pos 0) (pos 65535) (i32_at rec.now 17)) (by_jump (jump_kind_at rec.now 14) (Ok L.JmpRel) (Ok L.JmpPtr) (Ok L.JmpRel) (Ok L.JmpShort)) (Err target_out_of_range)) Z.Word 0) }
 {
     if fast_value::in_range(show_record::u32_at(rec, FIRST + IMM), 0, 65536) {
         if rec[FIRST + JUMP_KIND] == 1 {
@@ -295,7 +295,7 @@ fn port_dx(rec: &[u8], acc: usize, port: usize, op_code: u8) -> u64
 // RET, which may have an immediate.
 fn ret(rec: &[u8], count: u8) -> u64
     requires { Ready rec.now }
-    ensures { (off base : ℕ) → Gives result (line_at rec.now off (pick (eqb count 0) L.Ret L.RetImm) Z.Word base) }
+    ensures { (off base : ℕ) → Gives result (line_at rec.now off (pick (eqb count 0) (Ok L.Ret) (Ok L.RetImm)) Z.Word base) }
 {
     if count == 0 {
         return fast_forms::byte_run(0xC3);

@@ -1,22 +1,21 @@
 -- The rows are those of the operations, and the sizes those that two operands share.
 -- Assumes nothing.
 use Prim.Native.Nat.{ℕ, zero, suc, ◌+◌, ◌*◌, ◌/◌, ◌%◌, ◌≤◌, ◌<◌}
-use mathlib.Core.Path.{◌≡◌, refl, sym, ◌∙◌}
+use mathlib.Core.Path.{◌≡◌, refl}
 use mathlib.Core.Bool.{Bool, true, false}
 use native.Mathlib.Omega.{arith}
 use lib.Dec.{T, eqb, ltb, eqb→eq, ltb→lt}
-use lib.ListN.{length, get_or, get_or-eq_default}
+use lib.ListN.{get_or, get_or-eq_default}
 use borrow.Author.Tests.{ltb-true, ltb-false}
-use Rattle.mrc_compiler.specs.declared.operations.Operation.{Operation}
 use Rattle.mrc_compiler.specs.declared.operations.Operation.TheVariants as Op
 use Rattle.mrc_compiler.specs.declared.encoder.OperandSize.TheVariants as S
 use Rattle.mrc_compiler.specs.Choose.{both}
 use Rattle.mrc_compiler.specs.Operations.{operations}
-use Rattle.x86.proofs.Tests.{up_to, up_to_at, both_parts, is_true}
+use Rattle.x86.proofs.Tests.{up_to, up_to_at, both_parts}
 use Rattle.encode_groups.specs.declared.Group.{Group}
 use Rattle.encode_groups.specs.declared.Group.TheVariants as G
 use Rattle.encode_groups.specs.Grouping.{grouped_of, group_of, base_of}
-use Rattle.encode_plans.specs.declared.Common.TheVariants as M
+use Rattle.std.specs.Prelude.{Ok}
 use Rattle.encode_plans.specs.Sizes.{common_of}
 use Rattle.show_record.specs.Record.{sizes}
 use Rattle.fast_rows.specs.Rows.{groups, group_number, row_of, rows, no_row, commons, data_of}
@@ -83,7 +82,7 @@ group_at G.Unsupported = refl
 
 -- ---- the size of two operands
 pub common_is : (i j : ℕ) → i < 3 → j < 3 → 0 < get_or commons (3 * i + j) 0
-    → common_of (get_or sizes i S.Unspecified) (get_or sizes j S.Unspecified) ≡ M.Is (data_of (get_or commons (3 * i + j) 0))
+    → common_of (get_or sizes i S.Unspecified) (get_or sizes j S.Unspecified) ≡ Ok (data_of (get_or commons (3 * i + j) 0))
 common_is zero zero hi hj h = absurd (omega arith)
 common_is zero (suc zero) hi hj h = refl
 common_is zero (suc (suc zero)) hi hj h = refl

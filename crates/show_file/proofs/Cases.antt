@@ -1,14 +1,15 @@
 -- Which of the questions about the file comes first, and which record is named (REFERENCE 8).
 -- Assumes nothing.
+use Rattle.std.specs.Prelude.{Err, Ok, Result}
 use mathlib.Core.Path.{◌≡◌, refl}
 use mathlib.Core.List.{List, [], ◌∷◌, ◌++◌}
 use Prim.Native.Nat.{ℕ, ◌*◌, ◌/◌, ◌%◌}
 use lib.ListN.{replicate, set}
 use Rattle.mrc_compiler.specs.Operations.{operations}
 use Rattle.show_record.specs.Record.{operand_known, codes_known}
+use Rattle.show_file.specs.declared.Header.{Header}
+use Rattle.show_file.specs.declared.LoadError.{LoadError}
 use Rattle.show_file.specs.declared.LoadError.TheVariants as E
-use Rattle.show_file.specs.declared.Opened.{Opened}
-use Rattle.show_file.specs.declared.Opened.TheVariants as O
 use Rattle.show_file.specs.Show.{most_records, has_mark, u16_at, record_bytes, is_count, headed, opened, is_unknown, first_unknown}
 
 -- version, origin 0x1234, count
@@ -24,7 +25,7 @@ abbrev pub longer : ℕ → ℕ → ℕ → List ℕ
 longer op repeat s = op ∷ 0 ∷ repeat ∷ s ∷ 0 ∷ 0 ∷ 0 ∷ s ∷ 0 ∷ 0 ∷ 0 ∷ replicate 46 0
 
 -- the loader's limit
-abbrev opens : List ℕ → Opened
+abbrev opens : List ℕ → Result Header LoadError
 opens = opened most_records
 
 -- a file of this version with n records of so many zeros
@@ -35,19 +36,19 @@ abbrev zeros : ℕ → ℕ → List ℕ
 zeros v n = of 56 v n
 
 record Rows : Type 0 where
-  empty : opens [] ≡ O.Refused E.NoMark
-  mark_alone : opens (0x46 ∷ 0x53 ∷ 0x51 ∷ []) ≡ O.Refused E.WrongLength
-  no_records : opens (front 1 0) ≡ O.Show (record { version = 1; origin = 0x1234; count = 0 })
+  empty : opens [] ≡ Err E.NoMark
+  mark_alone : opens (0x46 ∷ 0x53 ∷ 0x51 ∷ []) ≡ Err E.WrongLength
+  no_records : opens (front 1 0) ≡ Ok (record { version = 1; origin = 0x1234; count = 0 })
   -- the mark before the version, and before the nine bytes
-  mark_before_version : opens (0x46 ∷ 0x53 ∷ 0x50 ∷ 4 ∷ 0 ∷ 0 ∷ 0 ∷ 0 ∷ 0 ∷ []) ≡ O.Refused E.NoMark
-  mark_before_nine : opens (0x46 ∷ 0x53 ∷ 0x50 ∷ []) ≡ O.Refused E.NoMark
+  mark_before_version : opens (0x46 ∷ 0x53 ∷ 0x50 ∷ 4 ∷ 0 ∷ 0 ∷ 0 ∷ 0 ∷ 0 ∷ []) ≡ Err E.NoMark
+  mark_before_nine : opens (0x46 ∷ 0x53 ∷ 0x50 ∷ []) ≡ Err E.NoMark
   -- nine bytes before the version
-  nine_before_version : opens (0x46 ∷ 0x53 ∷ 0x51 ∷ 4 ∷ 0 ∷ 0 ∷ 0 ∷ 0 ∷ []) ≡ O.Refused E.WrongLength
+  nine_before_version : opens (0x46 ∷ 0x53 ∷ 0x51 ∷ 4 ∷ 0 ∷ 0 ∷ 0 ∷ 0 ∷ []) ≡ Err E.WrongLength
   -- the version before the length
-  version_before_length : opens (front 4 1) ≡ O.Refused E.WrongVersion
-  version_0 : opens (front 0 0) ≡ O.Refused E.WrongVersion
-  one_short : opens (front 1 2 ++ plain 97 1) ≡ O.Refused E.WrongLength
-  one_over : opens (front 1 0 ++ (0 ∷ [])) ≡ O.Refused E.WrongLength
+  version_before_length : opens (front 4 1) ≡ Err E.WrongVersion
+  version_0 : opens (front 0 0) ≡ Err E.WrongVersion
+  one_short : opens (front 1 2 ++ plain 97 1) ≡ Err E.WrongLength
+  one_over : opens (front 1 0 ++ (0 ∷ [])) ≡ Err E.WrongLength
   -- of two unknown codes the first
   first_unknown_lem : first_unknown (front 1 3 ++ (plain 97 1 ++ (plain 99 2 ++ plain 100 3))) 3 ≡ 1
   none_unknown : first_unknown (front 1 1 ++ plain 98 1) 1 ≡ 1
@@ -80,26 +81,26 @@ rows = record {
 
 -- both sides of each version's counts (document 02, Nos. 5 and 11), in files of the right length
 record Counts : Type 0 where
-  one_1000 : opens (zeros 1 1000) ≡ O.Show (record { version = 1; origin = 0; count = 1000 })
-  one_1001 : opens (zeros 1 1001) ≡ O.Refused E.WrongLength
-  two_0 : opens (zeros 2 0) ≡ O.Refused E.WrongLength
-  two_1000 : opens (zeros 2 1000) ≡ O.Refused E.WrongLength
-  two_1001 : opens (zeros 2 1001) ≡ O.Show (record { version = 2; origin = 0; count = 1001 })
-  two_8000 : opens (zeros 2 8000) ≡ O.Show (record { version = 2; origin = 0; count = 8000 })
-  two_8001 : opens (zeros 2 8001) ≡ O.Refused E.WrongLength
-  three_0 : opens (of 57 3 0) ≡ O.Show (record { version = 3; origin = 0; count = 0 })
-  three_1 : opens (of 57 3 1) ≡ O.Show (record { version = 3; origin = 0; count = 1 })
-  three_1001 : opens (of 57 3 1001) ≡ O.Show (record { version = 3; origin = 0; count = 1001 })
-  three_8000 : opens (of 57 3 8000) ≡ O.Show (record { version = 3; origin = 0; count = 8000 })
-  three_8001 : opens (of 57 3 8001) ≡ O.Refused E.WrongLength
+  one_1000 : opens (zeros 1 1000) ≡ Ok (record { version = 1; origin = 0; count = 1000 })
+  one_1001 : opens (zeros 1 1001) ≡ Err E.WrongLength
+  two_0 : opens (zeros 2 0) ≡ Err E.WrongLength
+  two_1000 : opens (zeros 2 1000) ≡ Err E.WrongLength
+  two_1001 : opens (zeros 2 1001) ≡ Ok (record { version = 2; origin = 0; count = 1001 })
+  two_8000 : opens (zeros 2 8000) ≡ Ok (record { version = 2; origin = 0; count = 8000 })
+  two_8001 : opens (zeros 2 8001) ≡ Err E.WrongLength
+  three_0 : opens (of 57 3 0) ≡ Ok (record { version = 3; origin = 0; count = 0 })
+  three_1 : opens (of 57 3 1) ≡ Ok (record { version = 3; origin = 0; count = 1 })
+  three_1001 : opens (of 57 3 1001) ≡ Ok (record { version = 3; origin = 0; count = 1001 })
+  three_8000 : opens (of 57 3 8000) ≡ Ok (record { version = 3; origin = 0; count = 8000 })
+  three_8001 : opens (of 57 3 8001) ≡ Err E.WrongLength
   -- the other length of a record is 14
-  three_of_56 : opens (of 56 3 1) ≡ O.Refused E.WrongLength
-  one_of_57 : opens (of 57 1 1) ≡ O.Refused E.WrongLength
-  two_of_57 : opens (of 57 2 1001) ≡ O.Refused E.WrongLength
-  four_1 : opens (of 57 4 1) ≡ O.Refused E.WrongVersion
+  three_of_56 : opens (of 56 3 1) ≡ Err E.WrongLength
+  one_of_57 : opens (of 57 1 1) ≡ Err E.WrongLength
+  two_of_57 : opens (of 57 2 1001) ≡ Err E.WrongLength
+  four_1 : opens (of 57 4 1) ≡ Err E.WrongVersion
   -- a lower limit is the count's too
-  three_above_limit : opened 1000 (of 57 3 1001) ≡ O.Refused E.WrongLength
-  two_above_limit : opened 1000 (zeros 2 1001) ≡ O.Refused E.WrongLength
+  three_above_limit : opened 1000 (of 57 3 1001) ≡ Err E.WrongLength
+  two_above_limit : opened 1000 (zeros 2 1001) ≡ Err E.WrongLength
 
 counts : Counts
 unfolding record_bytes opened headed is_count has_mark u16_at

@@ -1,15 +1,13 @@
 -- The show file: mark, version, origin, count, then the records (REFERENCE 8).
 -- Definitions only.
-use Rattle.std.specs.Prelude.{ℕ, zero, suc, ◌+◌, ◌*◌, Bool, List, [], ◌∷◌, eqb, leb, length, take, drop}
+use Rattle.std.specs.Prelude.{ℕ, zero, suc, ◌+◌, ◌*◌, Bool, List, [], ◌∷◌, eqb, leb, length, take, drop, Option, Some, None, Result, Ok, Err}
 use Rattle.mrc_compiler.specs.declared.encoder.InstructionData.{InstructionData}
 use Rattle.mrc_compiler.specs.Choose.{pick, both, isnt}
 use Rattle.show_record.specs.Record.{record_length, repeat_length, byte_at, instruction_at, codes_known}
 use Rattle.show_file.specs.declared.Counts.{Counts}
-use Rattle.show_file.specs.declared.Counts.TheVariants as C
 use Rattle.show_file.specs.declared.Header.{Header}
+use Rattle.show_file.specs.declared.LoadError.{LoadError}
 use Rattle.show_file.specs.declared.LoadError.TheVariants as E
-use Rattle.show_file.specs.declared.Opened.{Opened}
-use Rattle.show_file.specs.declared.Opened.TheVariants as O
 
 -- ---- the header
 abbrev pub version_place : ℕ
@@ -42,9 +40,9 @@ versions = version 1 0 1000 record_length ∷ version 2 1001 8000 record_length 
 abbrev pub most_records : ℕ
 most_records = 8000
 
-abbrev pub counts_in : List Version → ℕ → Counts
-counts_in [] v = C.None
-counts_in (r ∷ rs) v = pick (eqb v r.number) (C.Between r.fewest r.most) (counts_in rs v)
+abbrev pub counts_in : List Version → ℕ → Option Counts
+counts_in [] v = None
+counts_in (r ∷ rs) v = pick (eqb v r.number) (Some (record { fewest = r.fewest; most = r.most })) (counts_in rs v)
 
 -- the bytes of a record; of no version as of the first
 abbrev pub each_in : List Version → ℕ → ℕ
@@ -81,18 +79,18 @@ insn_at file k = instruction_at (record_at file k)
 unfoldable pub is_count : ℕ → ℕ → ℕ → ℕ → Bool
 is_count limit fewest most n = both (leb fewest n) (both (leb n most) (leb n limit))
 
-abbrev pub counted : ℕ → List ℕ → Header → Counts → Opened
-counted limit file h C.None = O.Refused E.WrongVersion
-counted limit file h (C.Between fewest most) =
-    pick (both (is_count limit fewest most h.count) (eqb (length file) (record_place file h.count))) (O.Show h) (O.Refused E.WrongLength)
+abbrev pub counted : ℕ → List ℕ → Header → Option Counts → Result Header LoadError
+counted limit file h None = Err E.WrongVersion
+counted limit file h (Some counts) =
+    pick (both (is_count limit counts.fewest counts.most h.count) (eqb (length file) (record_place file h.count))) (Ok h) (Err E.WrongLength)
 
-unfoldable pub headed : ℕ → List ℕ → Opened
+unfoldable pub headed : ℕ → List ℕ → Result Header LoadError
 headed limit file =
     let h = header file in
-    pick (leb header_length (length file)) (counted limit file h (counts_in versions h.version)) (O.Refused E.WrongLength)
+    pick (leb header_length (length file)) (counted limit file h (counts_in versions h.version)) (Err E.WrongLength)
 
-unfoldable pub opened : ℕ → List ℕ → Opened
-opened limit file = pick (has_mark file) (headed limit file) (O.Refused E.NoMark)
+unfoldable pub opened : ℕ → List ℕ → Result Header LoadError
+opened limit file = pick (has_mark file) (headed limit file) (Err E.NoMark)
 
 -- ---- the first of records i, i + 1 .. (k of them) where f says yes, or i + k
 abbrev pub first_from : (ℕ → Bool) → ℕ → ℕ → ℕ

@@ -1,21 +1,22 @@
 // The show file: its header and records, and the questions about the file itself (REFERENCE 8).
 #![tactic(auto)]
 
-ghost use Rattle.std.specs.Prelude.{◌≡◌, ◌+◌, ◌*◌, ◌<◌, ◌≤◌, length};
+ghost use Rattle.std.specs.Prelude.{◌≡◌, ◌+◌, ◌*◌, ◌<◌, ◌≤◌, true, length, unwrap_or, IfSome};
 ghost use Rattle.mrc_compiler.specs.Refusals.{report_of};
+ghost use Rattle.show_record.specs.Record.{is_record};
 ghost use Rattle.show_file.specs.Refusals.{number_of};
-ghost use Rattle.show_file.specs.Show.{header_length, u16_at, header, has_mark, versions, counts_in, each_in, record_bytes, is_count, headed, opened, record_place, insn_at, first_unknown, most_records};
+ghost use Rattle.show_file.specs.Show.{header_length, u16_at, header, has_mark, versions, counts_in, each_in, record_bytes, is_count, headed, opened, record_place, record_at, insn_at, first_unknown, most_records};
 
 use mrc_compiler::encoder::{EncodeError, InstructionData};
 
-#[derive(Clone, Copy)]
+#[derive(Clone, Copy, Debug, PartialEq, Eq)]
 pub struct Header {
     pub version: u16,
     pub origin: u16,
     pub count: u16,
 }
 
-#[derive(Clone, Copy)]
+#[derive(Clone, Copy, Debug, PartialEq, Eq)]
 pub enum LoadError {
     // 12.
     NoMark,
@@ -66,34 +67,29 @@ impl LoadError {
     }
 }
 
-#[derive(Clone, Copy)]
-pub enum Opened {
-    Show(Header),
-    Refused(LoadError),
-}
-
 const HEADER_LENGTH: usize = 9;
 
 // No version has more.
 pub const MOST_RECORDS: u16 = 8000;
 
 // The fewest and the most records of a file.
-#[derive(Clone, Copy)]
-pub enum Counts {
-    None,
-    Between(u16, u16),
+#[derive(Clone, Copy, Debug, PartialEq, Eq)]
+pub struct Counts {
+    pub fewest: u16,
+    pub most: u16,
 }
 
 // Those of a version's files.
-fn counts_of(version: u16) -> Counts
+fn counts_of(version: u16) -> Option<Counts>
     ensures { result ≡ counts_in versions version }
 {
-    match version {
-        1 => Counts::Between(0, 1000),
-        2 => Counts::Between(1001, 8000),
-        3 => Counts::Between(0, 8000),
-        _ => Counts::None,
-    }
+    let (fewest, most) = match version {
+        1 => (0, 1000),
+        2 => (1001, 8000),
+        3 => (0, 8000),
+        _ => return None,
+    };
+    Some(Counts { fewest, most })
 }
 
 // The bytes of a version's records.
@@ -108,94 +104,77 @@ fn record_length(version: u16) -> usize
     }
 }
 
+#[tactic(auto, unfolding(crate::specs::Show::is_count))]
 fn is_count(limit: u16, fewest: u16, most: u16, count: u16) -> bool
     ensures { result ≡ is_count limit fewest most count }
 {
-    if count < fewest {
-        return false;
-    }
-    if most < count {
-        return false;
-    }
-    count <= limit
+    fewest <= count && count <= most && count <= limit
 }
 
 pub fn has_mark(file: &[u8]) -> bool
     ensures { result ≡ has_mark file.now }
 {
-    if show_record::byte_at(file, 0) != 0x46 {
-        return false;
-    }
-    if show_record::byte_at(file, 1) != 0x53 {
-        return false;
-    }
-    show_record::byte_at(file, 2) == 0x51
+    file.starts_with(b"FSQ")
 }
 
-fn u16_of(low: u8, high: u8) -> u16
-    ensures { result ≡ low + 256 * high }
-{
-    low as u16 + 256 * high as u16
-}
-
+#[tactic(auto, unfolding(crate::specs::Show::u16_at))]
 fn u16_at(file: &[u8], at: usize) -> u16
     requires { at ≤ 7 }
     ensures { result ≡ u16_at file.now at }
 {
-    u16_of(
+    u16::from_le_bytes([
         show_record::byte_at(file, at),
         show_record::byte_at(file, at + 1),
-    )
+    ])
 }
 
 // The questions behind the mark.
-fn header_of(file: &[u8], limit: u16) -> Opened
+#[tactic(auto, unfolding(crate::specs::Show::headed))]
+fn header_of(file: &[u8], limit: u16) -> Result<Header, LoadError>
     ensures { result ≡ headed limit file.now }
 {
     if file.len() < HEADER_LENGTH {
-        return Opened::Refused(LoadError::WrongLength);
+        return Err(LoadError::WrongLength);
     }
     let version = u16_at(file, 3);
     let origin = u16_at(file, 5);
     let count = u16_at(file, 7);
-    let counts = counts_of(version);
-    match counts {
-        Counts::None => Opened::Refused(LoadError::WrongVersion),
-        Counts::Between(fewest, most) => {
-            if is_count(limit, fewest, most, count) {
-                if file.len() != HEADER_LENGTH + record_length(version) * count as usize {
-                    return Opened::Refused(LoadError::WrongLength);
-                }
-                Opened::Show(Header {
-                    version,
-                    origin,
-                    count,
-                })
-            } else {
-                Opened::Refused(LoadError::WrongLength)
-            }
-        },
+    let Some(counts) = counts_of(version) else {
+        return Err(LoadError::WrongVersion);
+    };
+    if !is_count(limit, counts.fewest, counts.most, count) {
+        return Err(LoadError::WrongLength);
     }
+    if file.len() != HEADER_LENGTH + record_length(version) * count as usize {
+        return Err(LoadError::WrongLength);
+    }
+    Ok(Header {
+        version,
+        origin,
+        count,
+    })
 }
 
 // The questions about the file itself; a count above the limit is refused as one above its version's.
-pub fn open(file: &[u8], limit: u16) -> Opened
+#[tactic(auto, unfolding(crate::specs::Show::opened))]
+pub fn open(file: &[u8], limit: u16) -> Result<Header, LoadError>
     ensures { result ≡ opened limit file.now }
 {
     if has_mark(file) {
         header_of(file, limit)
     } else {
-        Opened::Refused(LoadError::NoMark)
+        Err(LoadError::NoMark)
     }
 }
 
 // The bytes of a file's records.
+#[tactic(auto, unfolding(crate::specs::Show::record_bytes, crate::specs::Show::u16_at))]
 pub fn record_bytes(file: &[u8]) -> usize
     requires { header_length ≤ length file.now }
     ensures value { result ≡ record_bytes file.now }
     ensures small { result ≤ 57 }
 {
-    record_length(u16_of(file[3], file[4]))
+    record_length(u16::from_le_bytes([file[3], file[4]]))
 }
 
 // Where record k begins, of records of so many bytes.
@@ -213,35 +192,35 @@ pub fn record_count(file: &[u8]) -> usize
     u16_at(file, 7) as usize
 }
 
+// The bytes of record k of n.
+pub fn record(file: &[u8], n: usize, k: usize) -> &[u8]
+    requires { (length file.now ≡ record_place file.now n) × (n ≤ most_records) × (k < n) }
+    ensures value { result.now ≡ record_at file.now k }
+    ensures is_one { is_record (length result.now) ≡ true }
+{
+    let each = record_bytes(file);
+    let from = place_of(each, k);
+    &file[from..from + each]
+}
+
 // Record k of n.
 pub fn insn_at(file: &[u8], n: usize, k: usize) -> InstructionData
     requires { (length file.now ≡ record_place file.now n) × (n ≤ most_records) × (k < n) }
     ensures { result ≡ insn_at file.now k }
 {
-    let each = record_bytes(file);
-    let from = place_of(each, k);
-    let to = from + each;
-    let rec = &file[from..to];
-    show_record::instruction_at(rec)
+    show_record::instruction_at(record(file, n, k))
 }
 
-// The first record with a code that is not known, or n.
-pub fn first_unknown(file: &[u8], n: usize) -> usize
+// The first record of n with a code that is not known.
+pub fn first_unknown(file: &[u8], n: usize) -> Option<usize>
     requires { (length file.now ≡ record_place file.now n) × (n ≤ most_records) }
-    ensures { result ≡ first_unknown file.now n }
+    ensures first { unwrap_or result n ≡ first_unknown file.now n }
+    ensures below { IfSome result (λ k. k < n) }
 {
-    let each = record_bytes(file);
-    let mut k = 0;
-    while k < n {
-        let from = place_of(each, k);
-        let to = from + each;
-        let rec = &file[from..to];
-        let is_known = show_record::codes_known(rec);
-        if is_known {
-            k += 1;
-        } else {
-            return k;
+    for k in 0..n {
+        if !show_record::codes_known(record(file, n, k)) {
+            return Some(k);
         }
     }
-    n
+    None
 }

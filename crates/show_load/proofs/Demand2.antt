@@ -1,18 +1,17 @@
 -- Demand 2 for a show that loads: each record's part of the image reads as the record's instruction.
 -- Assumes nothing.
-use Rattle.std.proofs.Common.{◌≡◌, ℕ, zero, suc, ◌+◌, ◌-◌, ◌<◌, ◌≤◌, Bool, true, false, leb, List, [], ◌++◌, length, take, drop, sym, refl, ◌∙◌, append_assoc, append-nil, add-one, arith, length-append}
+use Rattle.std.proofs.Common.{◌≡◌, ℕ, zero, suc, ◌+◌, ◌-◌, ◌<◌, ◌≤◌, Bool, true, false, leb, List, [], ◌++◌, length, take, drop, sym, refl, ◌∙◌, append_assoc, append-nil, add-one, arith, length-append, Err, Ok, Result}
 use lib.Seq.{take-append_seam, drop-append_seam}
 use Rattle.mrc_compiler.specs.Choose.{pick}
 use Rattle.encode_spec.specs.Meaning.{meaning}
 use Rattle.encode_spec.specs.Answer.{bytes}
 use Rattle.encode_spec.proofs.Accepted.{Reads, accepted_reads}
+use Rattle.show_file.specs.declared.LoadError.{LoadError}
 use Rattle.show_file.specs.declared.Header.{Header}
 use Rattle.show_file.specs.Show.{most_records, insn_at}
-use Rattle.show_load.specs.declared.Loaded.{Loaded}
-use Rattle.show_load.specs.declared.Loaded.TheVariants as L
 use Rattle.show_load.specs.Loading.{offset_behind, answer_at, walk, bytes_in, is_all, too_short, first_over, fitted, accepted, loaded, image_after}
 use Rattle.show_load.specs.Demand2.{part, Loaded2}
-use Rattle.show_load.proofs.Laws.{Upto, upto_start, answered_all, step_all, refused_image, accepted_image}
+use Rattle.show_load.proofs.Laws.{Upto, upto_start, answered_all, step_all, as_image, refused_image, accepted_image}
 
 -- ---- the records of a file of which all n are accepted
 module _ (file : List ℕ) (origin n : ℕ) (t : is_all (walk file origin n) ≡ true) where
@@ -58,16 +57,16 @@ module _ (file : List ℕ) (origin n : ℕ) (t : is_all (walk file origin n) ≡
 
 -- ---- a file that loads
 module _ (file : List ℕ) (h : Header) (n : ℕ) (image : List ℕ) where
-  fits : (a : Loaded) → fitted file (length image) a ≡ L.Image h n → a ≡ L.Image h n
-  fits (L.Refused e) q = q
-  fits (L.Image g m) q = go (leb m (length image)) q
+  fits : (a : Result (Header × ℕ) LoadError) → fitted file (length image) a ≡ Ok (h, n) → a ≡ Ok (h, n)
+  fits (Err e) q = q
+  fits (Ok (g, m)) q = go (leb m (length image)) q
     where
-      go : (b : Bool) → pick b (L.Image g m) (too_short file (first_over file g.origin (length image) g.count)) ≡ L.Image h n → L.Image g m ≡ L.Image h n
+      go : (b : Bool) → pick b (as_image g m) (Err (too_short file (first_over file g.origin (length image) g.count))) ≡ as_image h n → as_image g m ≡ as_image h n
       go true q = q
       go false q = absurd (refused_image q)
 
   -- record k's bytes begin behind those of the records before it
-  pub reads_at : loaded file (length image) ≡ L.Image h n → Loaded2 file h n (λ k. length (bytes_in (walk file h.origin k))) image (image_after file image)
+  pub reads_at : loaded file (length image) ≡ Ok (h, n) → Loaded2 file h n (λ k. length (bytes_in (walk file h.origin k))) image (image_after file image)
   reads_at q =
       let a = accepted_image most_records file h n (fits (accepted most_records file) q) in
       let t = a.all_in in
@@ -84,5 +83,5 @@ module _ (file : List ℕ) (h : Header) (n : ℕ) (image : List ℕ) where
         rest = rw (after, a.size) (drop-append_seam (w file o c t c) d);
       }
 
-  pub show_reads : loaded file (length image) ≡ L.Image h n → (starts : ℕ → ℕ) × Loaded2 file h n starts image (image_after file image)
+  pub show_reads : loaded file (length image) ≡ Ok (h, n) → (starts : ℕ → ℕ) × Loaded2 file h n starts image (image_after file image)
   show_reads q = (λ k. length (bytes_in (walk file h.origin k)), reads_at q)

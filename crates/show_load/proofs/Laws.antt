@@ -1,33 +1,29 @@
 -- The laws that the loader's loops rest on: the step over a record, and what stands at the front of a lent slice.
 -- Assumes nothing.
-use Rattle.std.proofs.Common.{◌≡◌, ℕ, zero, suc, ◌+◌, ◌-◌, ◌*◌, ◌<◌, ◌≤◌, Bool, true, false, eqb, ltb, leb, List, [], ◌∷◌, ◌++◌, length, take, refl, ◌∙◌, ⊎_elim, le_of_suc-le-suc, eq-or-lt_of_le, add-one, arith, length-append, ltb-false, ltb-true, le-ltb, lt-ltb, eqb-true, leb-true}
+use Rattle.std.proofs.Common.{◌≡◌, ℕ, zero, suc, ◌+◌, ◌-◌, ◌*◌, ◌<◌, ◌≤◌, Bool, true, false, ltb, List, [], ◌∷◌, ◌++◌, length, take, refl, sym, ap, ◌∙◌, ⊎_elim, le_of_suc-le-suc, eq-or-lt_of_le, add-one, arith, length-append, le-ltb, lt-ltb, Err, Ok, Result}
 use Rattle.mrc_compiler.specs.declared.encoder.EncodeError.{EncodeError}
-use Rattle.mrc_compiler.specs.declared.encoder.Encoded.TheVariants as N
-use Rattle.mrc_compiler.specs.Choose.{pick, both}
+use Rattle.mrc_compiler.specs.Choose.{pick}
 use Rattle.encode_spec.specs.Answer.{Answer, bytes, refused}
 use Rattle.encode_spec.proofs.Outcomes.{Short, answer_short}
-use Rattle.encode_run.specs.Run.{empty_run}
-use Rattle.encode_codes.specs.declared.Emitted.{Emitted}
+use Rattle.encode_run.specs.declared.ByteRun.{ByteRun}
+use Rattle.encode_run.specs.Run.{empty_run, appended}
 use Rattle.encode_codes.specs.Emit.{emitted}
 use Rattle.encoder.specs.Lengths.{length_of}
 use Rattle.show_file.specs.declared.Header.{Header}
 use Rattle.show_file.specs.declared.LoadError.{LoadError}
 use Rattle.show_file.specs.declared.LoadError.TheVariants as Le
-use Rattle.show_file.specs.declared.Opened.{Opened}
-use Rattle.show_file.specs.declared.Opened.TheVariants as O
 use Rattle.show_file.specs.Show.{insn_at, opened, first_from, first_unknown}
 use Rattle.show_file.proofs.Opening.{Exact, opened_exact}
-use Rattle.show_load.specs.declared.Loaded.TheVariants as L
 use Rattle.show_load.specs.Loading.{Walk, all, stopped, offset_behind, answer_at, bytes_of, followed, further, walk, bytes_in, is_all, is_over, first_over, measured, show_accepted, accepted_by, accepted}
 
--- ---- the run of an answer: its bytes, at most seven; none of a refusal
-pub record Ran (d : Emitted) (bs : List ℕ) : Type 0 where
-  pub shown : take d.run.len d.run.bytes ≡ bs
-  pub count : d.run.len ≡ length bs
-  pub whole : length d.run.bytes ≡ 7
+-- ---- the run of an answer: its bytes, at most seven
+pub record Ran (run : ByteRun) (bs : List ℕ) : Type 0 where
+  pub shown : take run.len run.bytes ≡ bs
+  pub count : run.len ≡ length bs
+  pub whole : length run.bytes ≡ 7
   pub short : length bs ≤ 7
 
-ran_bytes : (bs : List ℕ) → length bs ≤ 7 → Ran (emitted empty_run (bytes bs)) bs
+ran_bytes : (bs : List ℕ) → length bs ≤ 7 → Ran (appended empty_run bs) bs
 ran_bytes [] h = record { shown = refl; count = refl; whole = refl; short = h }
 ran_bytes (a ∷ []) h = record { shown = refl; count = refl; whole = refl; short = h }
 ran_bytes (a ∷ b ∷ []) h = record { shown = refl; count = refl; whole = refl; short = h }
@@ -38,16 +34,25 @@ ran_bytes (a ∷ b ∷ c ∷ d ∷ e ∷ f ∷ []) h = record { shown = refl; co
 ran_bytes (a ∷ b ∷ c ∷ d ∷ e ∷ f ∷ g ∷ []) h = record { shown = refl; count = refl; whole = refl; short = h }
 ran_bytes (a ∷ b ∷ c ∷ d ∷ e ∷ f ∷ g ∷ x ∷ bs) h = absurd (omega arith)
 
-ran_by : (a : Answer) → Short a → Ran (emitted empty_run a) (bytes_of a)
-ran_by (bytes bs) h = ran_bytes bs h
-ran_by (refused e) h = record { shown = refl; count = refl; whole = refl; short = omega arith }
+ran_by : {run : ByteRun} (a : Answer) → Short a → emitted empty_run a ≡ Ok run → Ran run (bytes_of a)
+ran_by {run} (bytes bs) h q = let r : appended empty_run bs ≡ run = cc in rw (← r) (ran_bytes bs h)
+ran_by (refused e) h q = cc
 
 pub answer_at_short : (file : List ℕ) (origin k at : ℕ) → Short (answer_at file origin k at)
 answer_at_short file origin k at = answer_short (insn_at file k) (offset_behind origin at) (omega arith)
 
--- what run_at gives
-pub ran : (file : List ℕ) (origin k at : ℕ) (d : Emitted) → d ≡ emitted empty_run (answer_at file origin k at) → Ran d (bytes_of (answer_at file origin k at))
-ran file origin k at d hd = rw hd (ran_by (answer_at file origin k at) (answer_at_short file origin k at))
+-- what run_at gives: a run, or a refusal, which has no bytes
+pub ran : (file : List ℕ) (origin k at : ℕ) {d : Result ByteRun EncodeError} → d ≡ emitted empty_run (answer_at file origin k at)
+    → {run : ByteRun} → d ≡ Ok run → Ran run (bytes_of (answer_at file origin k at))
+ran file origin k at hd q = ran_by (answer_at file origin k at) (answer_at_short file origin k at) (sym hd ∙ q)
+
+none_by : {e : EncodeError} (a : Answer) → emitted empty_run a ≡ Err e → bytes_of a ≡ []
+none_by (bytes bs) q = cc
+none_by (refused x) q = refl
+
+pub none_ran : (file : List ℕ) (origin k at : ℕ) {d : Result ByteRun EncodeError} → d ≡ emitted empty_run (answer_at file origin k at)
+    → {e : EncodeError} → d ≡ Err e → bytes_of (answer_at file origin k at) ≡ []
+none_ran file origin k at hd q = none_by (answer_at file origin k at) (sym hd ∙ q)
 
 -- ---- the walk
 walk_next : (file : List ℕ) (origin k : ℕ) (bs : List ℕ) → walk file origin k ≡ all bs
@@ -99,19 +104,19 @@ module _ (file : List ℕ) (origin k at : ℕ) (u : Upto file origin k at) where
   step_stops e q n h = stays file origin (suc k) n k e (next_is ∙ rw q) h
 
   -- by what length_at gives
-  pub step_length : (m : ℕ) → N.Length m ≡ length_of (answer_at file origin k at) → Step file origin k at × (m ≡ length (bytes_of (answer_at file origin k at)))
+  pub step_length : (m : ℕ) → Ok m ≡ length_of (answer_at file origin k at) → Step file origin k at × (m ≡ length (bytes_of (answer_at file origin k at)))
   step_length m q = go (answer_at file origin k at) refl
     where
       go : (a : Answer) → answer_at file origin k at ≡ a → Step file origin k at × (m ≡ length (bytes_of (answer_at file origin k at)))
-      go (bytes cs) e = let r : N.Length m ≡ N.Length (length cs) = rw e at q in (step_bytes cs e, rw e (cc))
-      go (refused x) e = let r : N.Length m ≡ N.Refused x = rw e at q in let z : ◌≡◌ {A = ℕ} 0 1 = cc in absurd (omega arith)
+      go (bytes cs) e = let r : Ok m ≡ Ok (length cs) = rw e at q in (step_bytes cs e, rw e (cc))
+      go (refused x) e = let r : Ok m ≡ Err x = rw e at q in let z : ◌≡◌ {A = ℕ} 0 1 = cc in absurd (omega arith)
 
-  pub step_refused : (x : EncodeError) → N.Refused x ≡ length_of (answer_at file origin k at) → (n : ℕ) → k < n → walk file origin n ≡ stopped k x
+  pub step_refused : (x : EncodeError) → Err x ≡ length_of (answer_at file origin k at) → (n : ℕ) → k < n → walk file origin n ≡ stopped k x
   step_refused x q n h = go (answer_at file origin k at) refl
     where
       go : (a : Answer) → answer_at file origin k at ≡ a → walk file origin n ≡ stopped k x
-      go (bytes cs) e = let r : N.Refused x ≡ N.Length (length cs) = rw e at q in let z : ◌≡◌ {A = ℕ} 0 1 = cc in absurd (omega arith)
-      go (refused y) e = let r : N.Refused x ≡ N.Refused y = rw e at q in let same : y ≡ x = cc in step_stops x (rw same at e) n h
+      go (bytes cs) e = let r : Err x ≡ Ok (length cs) = rw e at q in let z : ◌≡◌ {A = ℕ} 0 1 = cc in absurd (omega arith)
+      go (refused y) e = let r : Err x ≡ Err y = rw e at q in let same : y ≡ x = cc in step_stops x (rw same at e) n h
 
   -- where the first n are accepted
   module _ (n : ℕ) (t : is_all (walk file origin n) ≡ true) (h : k < n) where
@@ -183,28 +188,37 @@ pub record Accepted (limit : ℕ) (file : List ℕ) (h : Header) (n : ℕ) : Typ
   pub all_in : is_all (walk file h.origin h.count) ≡ true
   pub size : n ≡ length (bytes_in (walk file h.origin h.count))
 
-pub refused_image : {x : LoadError} {h : Header} {n : ℕ} → L.Refused x ≡ L.Image h n → ⊥
+-- a header with a length, and how two of them are the same
+abbrev pub as_image : Header → ℕ → Result (Header × ℕ) LoadError
+as_image h n = Ok (h, n)
+
+pub same_image : {g h : Header} {m n : ℕ} → as_image g m ≡ as_image h n → (g ≡ h) × (m ≡ n)
+same_image {g} {h} {m} {n} q =
+    let p : ◌≡◌ {A = Header × ℕ} (g, m) (h, n) = cc in
+    (ap (λ (x : Header × ℕ). x.0) p, ap (λ (x : Header × ℕ). x.1) p)
+
+pub refused_image : {x : LoadError} {h : Header} {n : ℕ} → Err x ≡ as_image h n → ⊥
 refused_image e = let z : ◌≡◌ {A = ℕ} 0 1 = cc in omega arith
 
 module _ (limit : ℕ) (file : List ℕ) (h : Header) (n : ℕ) where
-  measured_image : (g : Header) (w : Walk) → measured g w ≡ L.Image h n → (g ≡ h) × (is_all w ≡ true) × (n ≡ length (bytes_in w))
-  measured_image g (all bs) q = ((cc), refl, (cc))
+  measured_image : (g : Header) (w : Walk) → measured g w ≡ Ok (h, n) → (g ≡ h) × (is_all w ≡ true) × (n ≡ length (bytes_in w))
+  measured_image g (all bs) q = let (a, b) = same_image q in (a, refl, sym b)
   measured_image g (stopped k e) q = absurd (refused_image q)
 
-  show_image : (g : Header) → opened limit file ≡ O.Show g → show_accepted file g ≡ L.Image h n → Accepted limit file h n
+  show_image : (g : Header) → opened limit file ≡ Ok g → show_accepted file g ≡ Ok (h, n) → Accepted limit file h n
   unfolding show_accepted
   show_image g e q = go (ltb (first_unknown file g.count) g.count) q
     where
-      go : (b : Bool) → pick b (L.Refused (Le.UnknownCode (first_unknown file g.count))) (measured g (walk file g.origin g.count)) ≡ L.Image h n
+      go : (b : Bool) → pick b (Err (Le.UnknownCode (first_unknown file g.count))) (measured g (walk file g.origin g.count)) ≡ Ok (h, n)
           → Accepted limit file h n
       go true q = absurd (refused_image q)
       go false q =
           let (same, t, size) = measured_image g (walk file g.origin g.count) q in
           record { exact = opened_exact limit file h (rw same at e); all_in = rw same at t; size = rw same at size }
 
-  pub accepted_image : accepted limit file ≡ L.Image h n → Accepted limit file h n
+  pub accepted_image : accepted limit file ≡ Ok (h, n) → Accepted limit file h n
   accepted_image q = go (opened limit file) refl q
     where
-      go : (o : Opened) → opened limit file ≡ o → accepted_by file o ≡ L.Image h n → Accepted limit file h n
-      go (O.Show g) e q = show_image g e q
-      go (O.Refused x) e q = absurd (refused_image q)
+      go : (o : Result Header LoadError) → opened limit file ≡ o → accepted_by file o ≡ Ok (h, n) → Accepted limit file h n
+      go (Ok g) e q = show_image g e q
+      go (Err x) e q = absurd (refused_image q)

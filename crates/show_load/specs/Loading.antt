@@ -1,17 +1,14 @@
 -- What loading a show file answers, and what it leaves in the image (REFERENCE 8).
 -- Definitions only.
-use Rattle.std.specs.Prelude.{ℕ, zero, suc, ◌+◌, ◌%◌, Bool, true, false, List, [], ◌++◌, length, drop, nat_le, nat_lt}
+use Rattle.std.specs.Prelude.{ℕ, zero, suc, ◌+◌, ◌%◌, Bool, true, false, List, [], ◌++◌, length, drop, nat_le, nat_lt, Result, Ok, Err}
 use Rattle.mrc_compiler.specs.declared.encoder.EncodeError.{EncodeError}
 use Rattle.mrc_compiler.specs.declared.encoder.EncodeError.TheVariants as N
 use Rattle.mrc_compiler.specs.Choose.{pick}
 use Rattle.encode_spec.specs.Answer.{Answer, bytes, refused, answer}
 use Rattle.show_file.specs.declared.Header.{Header}
+use Rattle.show_file.specs.declared.LoadError.{LoadError}
 use Rattle.show_file.specs.declared.LoadError.TheVariants as E
-use Rattle.show_file.specs.declared.Opened.{Opened}
-use Rattle.show_file.specs.declared.Opened.TheVariants as O
 use Rattle.show_file.specs.Show.{most_records, opened, insn_at, first_from, first_unknown}
-use Rattle.show_load.specs.declared.Loaded.{Loaded}
-use Rattle.show_load.specs.declared.Loaded.TheVariants as L
 
 -- ---- the records, one after the other
 -- their bytes, or the first that is refused
@@ -63,42 +60,42 @@ first_over file origin size n = first_from (is_over file origin size) n 0
 
 -- ---- the answer
 -- the header with the length of the records' bytes, or the refusal of the first that is refused
-abbrev pub measured : Header → Walk → Loaded
-measured h (all bs) = L.Image h (length bs)
-measured h (stopped k e) = L.Refused (E.Record k e)
+abbrev pub measured : Header → Walk → Result (Header × ℕ) LoadError
+measured h (all bs) = Ok (h, length bs)
+measured h (stopped k e) = Err (E.Record k e)
 
 -- codes of all records, then each record
-unfoldable pub show_accepted : List ℕ → Header → Loaded
+unfoldable pub show_accepted : List ℕ → Header → Result (Header × ℕ) LoadError
 show_accepted file h =
     let k = first_unknown file h.count in
-    pick (nat_lt k h.count) (L.Refused (E.UnknownCode k)) (measured h (walk file h.origin h.count))
+    pick (nat_lt k h.count) (Err (E.UnknownCode k)) (measured h (walk file h.origin h.count))
 
-abbrev pub accepted_by : List ℕ → Opened → Loaded
-accepted_by file (O.Show h) = show_accepted file h
-accepted_by file (O.Refused e) = L.Refused e
+abbrev pub accepted_by : List ℕ → Result Header LoadError → Result (Header × ℕ) LoadError
+accepted_by file (Ok h) = show_accepted file h
+accepted_by file (Err e) = Err e
 
 -- the file, of no more records than the limit, then its records
-abbrev pub accepted : ℕ → List ℕ → Loaded
+abbrev pub accepted : ℕ → List ℕ → Result (Header × ℕ) LoadError
 accepted limit file = accepted_by file (opened limit file)
 
 -- 9, with the first record that does not fit
-abbrev pub too_short : List ℕ → ℕ → Loaded
-too_short file k = L.Refused (E.Record k (N.SliceTooShort (insn_at file k).opers_span))
+abbrev pub too_short : List ℕ → ℕ → LoadError
+too_short file k = E.Record k (N.SliceTooShort (insn_at file k).opers_span)
 
-abbrev pub fitted : List ℕ → ℕ → Loaded → Loaded
-fitted file size (L.Image h n) = pick (nat_le n size) (L.Image h n) (too_short file (first_over file h.origin size h.count))
-fitted file size (L.Refused e) = L.Refused e
+abbrev pub fitted : List ℕ → ℕ → Result (Header × ℕ) LoadError → Result (Header × ℕ) LoadError
+fitted file size (Ok (h, n)) = pick (nat_le n size) (Ok (h, n)) (Err (too_short file (first_over file h.origin size h.count)))
+fitted file size (Err e) = Err e
 
 -- then the image
-abbrev pub loaded : List ℕ → ℕ → Loaded
+abbrev pub loaded : List ℕ → ℕ → Result (Header × ℕ) LoadError
 loaded file size = fitted file size (accepted most_records file)
 
 -- ---- the image afterwards: the records' bytes at the front, or what it was
-abbrev pub placed : List ℕ → List ℕ → Loaded → List ℕ
-placed file image (L.Image h n) =
+abbrev pub placed : List ℕ → List ℕ → Result (Header × ℕ) LoadError → List ℕ
+placed file image (Ok (h, n)) =
     let bs = bytes_in (walk file h.origin h.count) in
     bs ++ drop (length bs) image
-placed file image (L.Refused e) = image
+placed file image (Err e) = image
 
 abbrev pub image_after : List ℕ → List ℕ → List ℕ
 image_after file image = placed file image (loaded file (length image))

@@ -1,5 +1,6 @@
 -- Records as bytes, and the instructions that they are. The first is document 01's MOV AX,4660.
 -- Assumes nothing.
+use Rattle.std.specs.Prelude.{Some}
 use mathlib.Core.Path.{◌≡◌, refl}
 use mathlib.Core.Bool.{Bool, true, false}
 use mathlib.Core.List.{List, [], ◌∷◌, ◌++◌}
@@ -7,9 +8,7 @@ use Prim.Native.Nat.{ℕ, ◌+◌}
 use lib.IntN.{pos, negsuc}
 use lib.ListN.{length, take, drop, set}
 use Rattle.mrc_compiler.specs.declared.ast.Span.{Span}
-use Rattle.mrc_compiler.specs.declared.ast.OptionDataSize.TheVariants as OD
 use Rattle.mrc_compiler.specs.declared.ast.DataSize.TheVariants as D
-use Rattle.mrc_compiler.specs.declared.ast.OptionSegment.TheVariants as OG
 use Rattle.mrc_compiler.specs.declared.ast.Segment.TheVariants as G
 use Rattle.mrc_compiler.specs.declared.encoder.OperandSize.TheVariants as S
 use Rattle.mrc_compiler.specs.declared.operations.Operation.TheVariants as Op
@@ -76,7 +75,7 @@ record Rows : Type 0 where
   mov_length : length mov_bytes ≡ record_length
   record_length_lem : ◌≡◌ {A = ℕ} record_length 56
   mov : instruction_at mov_bytes ≡ two_operands whole Op.MOV (register_operand one 0 S.Word) (immediate_operand two (pos 4660))
-  add : instruction_at add_bytes ≡ two_operands whole Op.ADD (indirect_operand one 6 (negsuc 1) (OD.Some D.Word) (OG.Some G.CS)) (immediate_operand two (negsuc 2147483647))
+  add : instruction_at add_bytes ≡ two_operands whole Op.ADD (indirect_operand one 6 (negsuc 1) (Some D.Word) (Some G.CS)) (immediate_operand two (negsuc 2147483647))
   jmp : instruction_at jmp_bytes ≡ one_operand whole Op.JMP (far_operand one (pos 4660) (pos 18))
   mov_known : codes_known mov_bytes ≡ true
   add_known : codes_known add_bytes ≡ true

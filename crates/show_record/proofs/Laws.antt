@@ -1,28 +1,53 @@
--- Laws of codes, of a record's length, and of a u32 read as an i32.
+-- Laws of codes and of a record's length.
 -- Assumes nothing.
+use Rattle.std.specs.Prelude.{None, Some}
 use mathlib.Core.Path.{◌≡◌, refl, sym, ◌∙◌, ap}
 use mathlib.Core.Bool.{Bool, true, false}
-use mathlib.Core.List.{List}
+use mathlib.Core.List.{List, [], ◌∷◌}
 use Prim.Native.Nat.{ℕ, zero, suc, ◌+◌, ◌-◌, ◌*◌, ◌≤◌, ◌<◌}
 use native.Mathlib.Omega.{arith}
 use lib.Dec.{eqb, ltb}
-use lib.IntN.{pos, negsuc, ◌-ℤ◌}
 use lib.ListN.{length, get_or, get_or-eq_default}
-use mir.Syntax.{w32}
-use mir.Val.{SFits, to_z, of_z}
-use mir.ValLaws.{to_z-of_z, to_z_pos}
-use borrow.Author.Tests.{lt-ltb, le-ltb, ltb-false, eqb-true}
+use borrow.Author.Tests.{ltb-true, ltb-false, eqb-true}
+use Rattle.std.specs.List.{slice_get}
+use Rattle.std.specs.Option.{is_some}
+use Rattle.std.proofs.lemmas.Option.{slice_get_past}
 use Rattle.mrc_compiler.specs.declared.operations.Operation.{Operation}
 use Rattle.mrc_compiler.specs.declared.operations.Operation.TheVariants as Op
-use Rattle.mrc_compiler.specs.declared.operations.OptionOperation.TheVariants as O
 use Rattle.mrc_compiler.specs.Choose.{pick}
 use Rattle.mrc_compiler.specs.Operations.{operations, operation_numbered}
-use Rattle.base_values.specs.Distances.{as_i_32}
-use Rattle.show_record.specs.Record.{repeat_in, is_record}
+use Rattle.show_record.specs.Record.{kinds, sizes, jump_kinds, kind_place, size_place, displacement_size_place, jump_kind_place, repeat_in, is_record, byte_at, known, operand_known}
 
 -- a code past the list counts as the first
 pub past : {A : Type 0} (codes : List A) (d : A) (n : ℕ) → length codes ≤ n → d ≡ get_or codes n d
 past codes d n h = sym (get_or-eq_default codes d h)
+
+has : {A : Type 0} (codes : List A) (n : ℕ) → n < length codes → is_some (slice_get codes n) ≡ true
+has [] n h = absurd (omega arith)
+has (c ∷ codes) zero h = refl
+has (c ∷ codes) (suc n) h = has codes n (omega arith)
+
+-- a code is known where the list has it
+pub known_is : {A : Type 0} (codes : List A) (n : ℕ) → is_some (slice_get codes n) ≡ known codes n
+known_is codes n = go (ltb n (length codes)) refl
+  where
+    go : (b : Bool) → ltb n (length codes) ≡ b → is_some (slice_get codes n) ≡ b
+    go true e = has codes n (ltb-true n (length codes) e)
+    go false e = rw (slice_get_past codes n (ltb-false n (length codes) e)) refl
+
+-- the codes of an operand, the last of which is asked where the others are known
+module _ (s : List ℕ) (i : ℕ) where
+  pub all_known : {r : Bool} → is_some (slice_get kinds (byte_at s (i + kind_place))) ≡ true → is_some (slice_get sizes (byte_at s (i + size_place))) ≡ true
+      → is_some (slice_get sizes (byte_at s (i + displacement_size_place))) ≡ true → r ≡ is_some (slice_get jump_kinds (byte_at s (i + jump_kind_place)))
+      → r ≡ operand_known s i
+  unfolding operand_known
+  all_known a b d e =
+      rw (
+        sym (known_is kinds (byte_at s (i + kind_place))) ∙ a,
+        sym (known_is sizes (byte_at s (i + size_place))) ∙ b,
+        sym (known_is sizes (byte_at s (i + displacement_size_place))) ∙ d,
+      )
+      (e ∙ known_is jump_kinds (byte_at s (i + jump_kind_place)))
 
 -- a record with d bytes of repeat
 pub record_length : (n d : ℕ) → is_record n ≡ true → d ≡ repeat_in n → n ≡ 56 + d
@@ -40,34 +65,16 @@ times_bit_fits x (suc zero) h f = omega arith
 times_bit_fits x (suc (suc d)) h f = omega arith
 
 -- ---- the operation of a number, or the first
-pub numbered_some : (n : ℕ) (op : Operation) → operation_numbered n ≡ O.Some op → op ≡ get_or operations n Op.MOV
+pub numbered_some : (n : ℕ) (op : Operation) → operation_numbered n ≡ Some op → op ≡ get_or operations n Op.MOV
 numbered_some n op e = go (ltb n (length operations)) e
   where
-    go : (b : Bool) → pick b (O.Some (get_or operations n Op.MOV)) O.None ≡ O.Some op → op ≡ get_or operations n Op.MOV
+    go : (b : Bool) → pick b (Some (get_or operations n Op.MOV)) None ≡ Some op → op ≡ get_or operations n Op.MOV
     go true e = cc
     go false e = cc
 
-pub numbered_none : (n : ℕ) → operation_numbered n ≡ O.None → Op.MOV ≡ get_or operations n Op.MOV
+pub numbered_none : (n : ℕ) → operation_numbered n ≡ None → Op.MOV ≡ get_or operations n Op.MOV
 numbered_none n e = go (ltb n (length operations)) refl e
   where
-    go : (b : Bool) → ltb n (length operations) ≡ b → pick b (O.Some (get_or operations n Op.MOV)) O.None ≡ O.None → Op.MOV ≡ get_or operations n Op.MOV
+    go : (b : Bool) → ltb n (length operations) ≡ b → pick b (Some (get_or operations n Op.MOV)) None ≡ None → Op.MOV ≡ get_or operations n Op.MOV
     go true p e = cc
     go false p e = past operations Op.MOV n (ltb-false n (length operations) p)
-
--- ---- as_i32
-minus : (k : ℕ) → negsuc 0 -ℤ pos k ≡ negsuc k
-minus zero = refl
-minus (suc k) = ap negsuc (omega arith)
-
-pub low_read : (n : ℕ) → n < 2147483648 → to_z w32 n ≡ as_i_32 n
-low_read n h = rw (to_z_pos w32 n (omega arith), lt-ltb n 2147483648 h)
-
-module _ (n : ℕ) (h : 2147483648 ≤ n) where
-  high_minus : negsuc 0 -ℤ to_z w32 (4294967295 - n) ≡ negsuc (4294967295 - n)
-  high_minus = rw (to_z_pos w32 (4294967295 - n) (omega arith)) (minus (4294967295 - n))
-
-  pub high_fits : SFits w32 (negsuc 0 -ℤ to_z w32 (4294967295 - n))
-  high_fits = rw high_minus (record { sfits = omega arith })
-
-  pub high_read : to_z w32 (of_z w32 (negsuc 0 -ℤ to_z w32 (4294967295 - n))) ≡ as_i_32 n
-  high_read = rw (to_z-of_z w32 (negsuc 0 -ℤ to_z w32 (4294967295 - n)) high_fits, high_minus, le-ltb n 2147483648 h)

@@ -1,6 +1,6 @@
 -- A record of a show file: 56 bytes, or 57 with a repeat behind the operand count; little-endian (REFERENCE 8). Bytes past the end count as 0.
 -- Definitions only.
-use Rattle.std.specs.Prelude.{ℕ, ◌+◌, ◌*◌, Bool, List, [], ◌∷◌, eqb, ltb, ℤ, length, get_or}
+use Rattle.std.specs.Prelude.{ℕ, ◌+◌, ◌*◌, Bool, List, [], ◌∷◌, eqb, ltb, ℤ, length, get_or, None, Option, Some}
 use Rattle.mrc_compiler.specs.declared.ast.Span.{Span}
 use Rattle.mrc_compiler.specs.declared.operations.Operation.{Operation}
 use Rattle.mrc_compiler.specs.declared.operations.Operation.TheVariants as Op
@@ -24,8 +24,8 @@ kinds = K.Imm ∷ K.Reg ∷ K.Seg ∷ K.Mem ∷ []
 abbrev pub sizes : List OperandSize
 sizes = S.Unspecified ∷ S.Byte ∷ S.Word ∷ []
 
-abbrev pub jump_kinds : List JumpKind
-jump_kinds = J.None ∷ J.Far ∷ J.Near ∷ J.Short ∷ []
+abbrev pub jump_kinds : List (Option JumpKind)
+jump_kinds = None ∷ (Some J.Far) ∷ (Some J.Near) ∷ (Some J.Short) ∷ []
 
 -- ---- the places of an operand's fields, from its first byte
 abbrev pub kind_place : ℕ
@@ -122,8 +122,8 @@ kind_at s i = get_or kinds (byte_at s i) K.Imm
 abbrev pub size_at : List ℕ → ℕ → OperandSize
 size_at s i = get_or sizes (byte_at s i) S.Unspecified
 
-abbrev pub jump_kind_at : List ℕ → ℕ → JumpKind
-jump_kind_at s i = get_or jump_kinds (byte_at s i) J.None
+abbrev pub jump_kind_at : List ℕ → ℕ → Option JumpKind
+jump_kind_at s i = get_or jump_kinds (byte_at s i) None
 
 -- ---- the record
 unfoldable pub operand_at : List ℕ → ℕ → OperandData

@@ -1,19 +1,15 @@
 // A record of a show file becomes an instruction (REFERENCE 8).
 #![tactic(auto)]
 
-ghost use Rattle.std.specs.Prelude.{◌≡◌, ◌+◌, ◌≤◌, true, eqb, length, get_or};
+ghost use Rattle.std.specs.Prelude.{◌≡◌, ◌+◌, ◌≤◌, true, eqb, length, get_or, slice_get};
 ghost use Rattle.mrc_compiler.specs.declared.operations.Operation.TheVariants as Op;
-ghost use Rattle.mrc_compiler.specs.declared.encoder.OperandKind.TheVariants as K;
-ghost use Rattle.mrc_compiler.specs.declared.encoder.OperandSize.TheVariants as S;
-ghost use Rattle.mrc_compiler.specs.declared.encoder.JumpKind.TheVariants as J;
 ghost use Rattle.mrc_compiler.specs.Choose.{pick};
 ghost use Rattle.mrc_compiler.specs.Operations.{operations};
-ghost use Rattle.base_values.specs.Distances.{as_i_32};
-ghost use Rattle.show_record.specs.Record.{kinds, sizes, jump_kinds, operand_length, repeat_in, is_record, byte_at, u32_of, u32_at, i32_at, span_at, operand_at, instruction_at, operand_known, codes_known};
+ghost use Rattle.show_record.specs.Record.{kinds, sizes, jump_kinds, operand_length, repeat_in, is_record, byte_at, u32_at, i32_at, span_at, operand_at, instruction_at, operand_known, codes_known};
 
 use mrc_compiler::ast::Span;
 use mrc_compiler::encoder::{InstructionData, JumpKind, OperandData, OperandKind, OperandSize};
-use mrc_compiler::operations::{Operation, OptionOperation};
+use mrc_compiler::operations::Operation;
 
 // The places of an operand's fields, from its first byte.
 pub const KIND: usize = 0;
@@ -60,33 +56,15 @@ pub const LONG_RECORD_LENGTH: usize = RECORD_LENGTH + 1;
 pub fn byte_at(bytes: &[u8], at: usize) -> u8
     ensures { result ≡ byte_at bytes.now at }
 {
-    if at < bytes.len() { bytes[at] } else { 0 }
+    bytes.get(at).copied().unwrap_or(0)
 }
 
-// The number of four bytes, low byte first.
-fn u32_of(a: u8, b: u8, c: u8, d: u8) -> u32
-    ensures { result ≡ u32_of a b c d }
-{
-    (a as u32) + 256 * ((b as u32) + 256 * ((c as u32) + 256 * (d as u32)))
-}
-
-// The u32 at a place.
+// The u32 at a place, low byte first.
 pub fn u32_at(bytes: &[u8], at: usize) -> u32
     requires { at + 4 ≤ length bytes.now }
     ensures { result ≡ u32_at bytes.now at }
 {
-    u32_of(bytes[at], bytes[at + 1], bytes[at + 2], bytes[at + 3])
-}
-
-// The i32 with the same 32 bits.
-fn as_i32(n: u32) -> i32
-    ensures { result ≡ as_i_32 n }
-{
-    if n < 2147483648 {
-        n as i32
-    } else {
-        -1 - (4294967295 - n) as i32
-    }
+    u32::from_le_bytes([bytes[at], bytes[at + 1], bytes[at + 2], bytes[at + 3]])
 }
 
 // The i32 at a place.
@@ -94,7 +72,7 @@ fn i32_at(bytes: &[u8], at: usize) -> i32
     requires { at + 4 ≤ length bytes.now }
     ensures { result ≡ i32_at bytes.now at }
 {
-    as_i32(u32_at(bytes, at))
+    u32_at(bytes, at).cast_signed()
 }
 
 // The span at a place: its start, then its end.
@@ -113,63 +91,66 @@ fn operation_of(code: u8) -> Operation
     ensures { result ≡ get_or operations code Op.MOV }
 {
     match Operation::numbered(code) {
-        OptionOperation::Some(operation) => operation,
-        OptionOperation::None => Operation::MOV,
+        Some(operation) => operation,
+        None => Operation::MOV,
     }
 }
 
-// The kind of a code. An unknown code counts as the code 0.
-fn kind_of(code: u8) -> OperandKind
-    ensures { result ≡ get_or kinds code K.Imm }
+// The kind of a code, where it is known.
+fn kind_of(code: u8) -> Option<OperandKind>
+    ensures { result ≡ slice_get kinds code }
 {
     match code {
-        0 => OperandKind::Imm,
-        1 => OperandKind::Reg,
-        2 => OperandKind::Seg,
-        3 => OperandKind::Mem,
-        _ => OperandKind::Imm,
+        0 => Some(OperandKind::Imm),
+        1 => Some(OperandKind::Reg),
+        2 => Some(OperandKind::Seg),
+        3 => Some(OperandKind::Mem),
+        _ => None,
     }
 }
 
-// The size of a code. An unknown code counts as the code 0.
-fn size_of(code: u8) -> OperandSize
-    ensures { result ≡ get_or sizes code S.Unspecified }
+// The size of a code, where it is known.
+fn size_of(code: u8) -> Option<OperandSize>
+    ensures { result ≡ slice_get sizes code }
 {
     match code {
-        0 => OperandSize::Unspecified,
-        1 => OperandSize::Byte,
-        2 => OperandSize::Word,
-        _ => OperandSize::Unspecified,
+        0 => Some(OperandSize::Unspecified),
+        1 => Some(OperandSize::Byte),
+        2 => Some(OperandSize::Word),
+        _ => None,
     }
 }
 
-// The jump kind of a code. An unknown code counts as the code 0.
-fn jump_kind_of(code: u8) -> JumpKind
-    ensures { result ≡ get_or jump_kinds code J.None }
+// The jump kind of a code, where it is known.
+fn jump_kind_of(code: u8) -> Option<Option<JumpKind>>
+    ensures { result ≡ slice_get jump_kinds code }
 {
     match code {
-        0 => JumpKind::None,
-        1 => JumpKind::Far,
-        2 => JumpKind::Near,
-        3 => JumpKind::Short,
-        _ => JumpKind::None,
+        0 => Some(None),
+        1 => Some(Some(JumpKind::Far)),
+        2 => Some(Some(JumpKind::Near)),
+        3 => Some(Some(JumpKind::Short)),
+        _ => None,
     }
 }
 
-// The operand whose first byte stands at a place.
+// The operand whose first byte stands at a place. An unknown code counts as the code 0.
+#[tactic(auto, unfolding(crate::specs::Record::operand_at))]
 fn operand_at(bytes: &[u8], at: usize) -> OperandData
     requires { at + operand_length ≤ length bytes.now }
     ensures { result ≡ operand_at bytes.now at }
 {
     OperandData {
         span: span_at(bytes, at + OPERAND_SPAN),
-        size: size_of(bytes[at + SIZE]),
-        kind: kind_of(bytes[at + KIND]),
+        size: size_of(bytes[at + SIZE]).unwrap_or(OperandSize::Unspecified),
+        kind: kind_of(bytes[at + KIND]).unwrap_or(OperandKind::Imm),
         segment_prefix: bytes[at + PREFIX],
         imm: i32_at(bytes, at + IMM),
         displacement: i32_at(bytes, at + DISPLACEMENT),
-        displacement_size: size_of(bytes[at + DISPLACEMENT_SIZE]),
-        jmp_kind: jump_kind_of(bytes[at + JUMP_KIND]),
+        displacement_size: size_of(bytes[at + DISPLACEMENT_SIZE]).unwrap_or(
+            OperandSize::Unspecified,
+        ),
+        jmp_kind: jump_kind_of(bytes[at + JUMP_KIND]).unwrap_or(None),
         mode: bytes[at + MODE],
         rm: bytes[at + RM],
     }
@@ -198,52 +179,40 @@ fn repeat_of(byte: u8, d: usize) -> u8
     byte * d as u8
 }
 
-// The instruction of a record whose codes are known. An enum that says whether they are cannot hold the operands' array: `codes_known` says it.
+// The instruction of a record whose codes are known; an unknown code counts as the code 0. No `Option`: who reads a record has asked `codes_known` of it, of a show's records all before the first.
+#[tactic(auto, unfolding(crate::specs::Record::instruction_at))]
 pub fn instruction_at(bytes: &[u8]) -> InstructionData
     requires { is_record (length bytes.now) ≡ true }
     ensures { result ≡ instruction_at bytes.now }
 {
     let d = repeat_in(bytes.len());
-    let first = operand_at(bytes, FIRST + d);
-    let second = operand_at(bytes, SECOND + d);
     InstructionData {
         operation: operation_of(bytes[OPERATION]),
         num_opers: bytes[COUNT],
         repeat: repeat_of(bytes[REPEAT], d),
-        opers: [first, second],
+        opers: [operand_at(bytes, FIRST + d), operand_at(bytes, SECOND + d)],
         opers_span: span_at(bytes, SPAN + d),
     }
 }
 
 // Are the codes of the operand at a place known?
+#[tactic(auto, unfolding(crate::specs::Record::operand_known))]
 fn operand_known(bytes: &[u8], at: usize) -> bool
     requires { at + operand_length ≤ length bytes.now }
     ensures { result ≡ operand_known bytes.now at }
 {
-    if 4 <= bytes[at + KIND] {
-        return false;
-    }
-    if 3 <= bytes[at + SIZE] {
-        return false;
-    }
-    if 3 <= bytes[at + DISPLACEMENT_SIZE] {
-        return false;
-    }
-    bytes[at + JUMP_KIND] < 4
+    kind_of(bytes[at + KIND]).is_some()
+        && size_of(bytes[at + SIZE]).is_some()
+        && size_of(bytes[at + DISPLACEMENT_SIZE]).is_some()
+        && jump_kind_of(bytes[at + JUMP_KIND]).is_some()
 }
 
 // Are all codes of a record known, those of an operand that is not used too? No: refusal 15.
+#[tactic(auto, unfolding(crate::specs::Record::codes_known, mrc_compiler::specs::Operations::operations))]
 pub fn codes_known(bytes: &[u8]) -> bool
     requires { is_record (length bytes.now) ≡ true }
     ensures { result ≡ codes_known bytes.now }
 {
     let d = repeat_in(bytes.len());
-    if 99 <= bytes[OPERATION] {
-        return false;
-    }
-    if operand_known(bytes, FIRST + d) {
-        operand_known(bytes, SECOND + d)
-    } else {
-        false
-    }
+    bytes[OPERATION] < 99 && operand_known(bytes, FIRST + d) && operand_known(bytes, SECOND + d)
 }

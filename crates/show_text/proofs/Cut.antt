@@ -1,5 +1,6 @@
 -- An input that does not fit the buffer prints what it would print whole: it is longer than any show that is printed.
 -- Assumes nothing.
+use Rattle.std.specs.Prelude.{Option, Some, None, Err}
 use mathlib.Core.Path.{◌≡◌, refl, sym, ◌∙◌}
 use mathlib.Core.Bool.{Bool, true, false}
 use mathlib.Core.List.{List, [], append-nil}
@@ -12,10 +13,8 @@ use lib.Seq.{length-take-le, take_all, get_or-take}
 use borrow.Author.Tests.{le-leb, leb-true, leb-false, ne_eqb}
 use Rattle.mrc_compiler.specs.Choose.{pick, both}
 use Rattle.show_file.specs.declared.Counts.{Counts}
-use Rattle.show_file.specs.declared.Counts.TheVariants as C
 use Rattle.show_file.specs.declared.LoadError.{LoadError}
 use Rattle.show_file.specs.declared.LoadError.TheVariants as E
-use Rattle.show_file.specs.declared.Opened.TheVariants as O
 use Rattle.show_file.specs.Show.{header_length, version_place, versions, counts_in, has_mark, u16_at, header, record_place, is_count, counted, headed, opened}
 use Rattle.show_file.proofs.Laws.{most_bytes}
 use Rattle.show_text.specs.Text.{refused_line, text_records, refused_ground, text}
@@ -25,14 +24,14 @@ abbrev longest : ℕ
 longest = header_length + 57 * text_records
 
 -- why a longer one is refused
-abbrev why_counted : Counts → LoadError
-why_counted C.None = E.WrongVersion
-why_counted (C.Between l m) = E.WrongLength
+abbrev why_counted : Option Counts → LoadError
+why_counted None = E.WrongVersion
+why_counted (Some k) = E.WrongLength
 
 abbrev why : List ℕ → LoadError
 why s = pick (has_mark s) (why_counted (counts_in versions (u16_at s version_place))) E.NoMark
 
-opened_long : (s : List ℕ) → longest < length s → opened text_records s ≡ O.Refused (why s)
+opened_long : (s : List ℕ) → longest < length s → opened text_records s ≡ Err (why s)
 unfolding opened headed is_count
 opened_long s l = rw (le-leb header_length (length s) (omega arith)) (go (has_mark s) (counts_in versions (u16_at s version_place)))
   where
@@ -45,9 +44,9 @@ opened_long s l = rw (le-leb header_length (length s) (omega arith)) (go (has_ma
     not_exact true false c h = refl
     not_exact false b c h = refl
 
-    go : (a : Bool) (c : Counts) → pick a (counted text_records s (header s) c) (O.Refused E.NoMark) ≡ O.Refused (pick a (why_counted c) E.NoMark)
-    go true C.None = refl
-    go true (C.Between f m) = rw (not_exact (leb f (header s).count) (leb (header s).count m) (leb (header s).count text_records) refl)
+    go : (a : Bool) (c : Option Counts) → pick a (counted text_records s (header s) c) (Err E.NoMark) ≡ Err (pick a (why_counted c) E.NoMark)
+    go true None = refl
+    go true (Some k) = rw (not_exact (leb k.fewest (header s).count) (leb (header s).count k.most) (leb (header s).count text_records) refl)
     go false c = refl
 
 -- no record is named, so that there is no ground
@@ -55,9 +54,9 @@ no_ground : (forms : Bool) (s : List ℕ) → pick forms (refused_ground s (why 
 no_ground false s = refl
 no_ground true s = go (has_mark s) (counts_in versions (u16_at s version_place))
   where
-    go : (a : Bool) (c : Counts) → refused_ground s (pick a (why_counted c) E.NoMark) ≡ []
-    go true C.None = refl
-    go true (C.Between f m) = refl
+    go : (a : Bool) (c : Option Counts) → refused_ground s (pick a (why_counted c) E.NoMark) ≡ []
+    go true None = refl
+    go true (Some k) = refl
     go false c = refl
 
 text_long : (forms : Bool) (s : List ℕ) → longest < length s → text forms s ≡ refused_line (why s)

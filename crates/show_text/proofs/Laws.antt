@@ -1,5 +1,6 @@
 -- The laws that the texts rest on: how long lines are, and the texts of the records behind each other.
 -- Assumes nothing.
+use Rattle.std.specs.Prelude.{Err}
 use mathlib.Core.Path.{◌≡◌, refl}
 use mathlib.Core.Bool.{Bool, true, false}
 use mathlib.Core.List.{List, [], ◌∷◌, ◌++◌}
@@ -11,7 +12,6 @@ use borrow.Rule.Slice.PartMut.{put_mid}
 use Rattle.mrc_compiler.specs.Choose.{pick}
 use Rattle.encode_spec.specs.Answer.{Answer, bytes, refused}
 use Rattle.encode_spec.proofs.Outcomes.{Short}
-use Rattle.encode_codes.specs.declared.Emitted.{Emitted}
 use Rattle.encode_run.specs.Run.{empty_run}
 use Rattle.encode_codes.specs.Emit.{emitted}
 use Rattle.show_file.specs.declared.Header.{Header}
@@ -19,7 +19,9 @@ use Rattle.show_file.specs.declared.LoadError.{LoadError}
 use Rattle.show_file.specs.declared.LoadError.TheVariants as E
 use Rattle.show_file.specs.Show.{header, insn_at}
 use Rattle.show_file.specs.Refusals.{number_of}
-use Rattle.show_load.specs.declared.Loaded.TheVariants as L
+use Rattle.std.specs.Prelude.{Result, Ok}
+use Rattle.mrc_compiler.specs.declared.encoder.EncodeError.{EncodeError}
+use Rattle.encode_run.specs.declared.ByteRun.{ByteRun}
 use Rattle.show_load.specs.Loading.{offset_behind, answer_at, bytes_of, walk, bytes_in, is_all, accepted}
 use Rattle.base_values.proofs.Fronts.{Front, front_start, front_next, lent}
 use Rattle.show_load.proofs.Laws.{Upto, upto_start, ran, step_all, answer_at_short}
@@ -140,7 +142,7 @@ refused_text_length forms file e =
     rw (length-append (refused_line e) (pick forms (refused_ground file e) [])) (omega arith)
 
 -- by what the code appends
-pub refused_holds : (forms : Bool) (file : List ℕ) (x : LoadError) → accepted text_records file ≡ L.Refused x → {line text : Line} → line ≡ appended empty_line (refused_line x)
+pub refused_holds : (forms : Bool) (file : List ℕ) (x : LoadError) → accepted text_records file ≡ Err x → {line text : Line} → line ≡ appended empty_line (refused_line x)
     → text ≡ appended line (pick forms (question_of file x) []) → Holds text (refused_text forms file x)
 refused_holds forms file x q {line} {text} hl ht =
     let l = refused_text_length forms file x in
@@ -203,18 +205,18 @@ lines_in forms file origin k at to out₀ out s n h room =
     let b = s.front.same in
     omega (arith, s.ends)
 
-module _ (forms : Bool) (file : List ℕ) (origin k at to : ℕ) (out₀ out : List ℕ) (s : Lines forms file origin k at to out₀ out) (d : Emitted)
-    (hd : d ≡ emitted empty_run (answer_at file origin k at)) (n : ℕ) (t : is_all (walk file origin n) ≡ true) (h : k < n) {line text : Line}
-    (hl : line ≡ appended empty_line (line_of (offset_behind origin at) (take d.run.len d.run.bytes))) (ht : text ≡ appended line (pick forms (form_at file k d.run.bytes) [])) where
+module _ (forms : Bool) (file : List ℕ) (origin k at to : ℕ) (out₀ out : List ℕ) (s : Lines forms file origin k at to out₀ out) {d : Result ByteRun EncodeError}
+    (hd : d ≡ emitted empty_run (answer_at file origin k at)) {run : ByteRun} (hr : d ≡ Ok run) (n : ℕ) (t : is_all (walk file origin n) ≡ true) (h : k < n) {line text : Line}
+    (hl : line ≡ appended empty_line (line_of (offset_behind origin at) (take run.len run.bytes))) (ht : text ≡ appended line (pick forms (form_at file k run.bytes) [])) where
   holds_record : Holds text (record_text forms file origin k)
   unfolding record_text record_line
   holds_record =
-      let e : line_of (offset_behind origin at) (take d.run.len d.run.bytes) ≡ record_line file origin k = rw ((ran file origin k at d hd).shown, s.upto.ends) refl in
+      let e : line_of (offset_behind origin at) (take run.len run.bytes) ≡ record_line file origin k = rw ((ran file origin k at hd hr).shown, s.upto.ends) refl in
       let r = record_short forms file origin k in
       let m = pick_most forms in
       line_holds text (record_text forms file origin k) (omega arith)
       (then empty_line (record_line file origin k) (pick forms (ground_at file origin k) []) (rw e at hl)
-      (rw (← (ground_accepted file origin k at s.upto d hd n t h)) at ht))
+      (rw (← (ground_accepted file origin k at s.upto _ hd hr n t h)) at ht))
 
   pub text_short : text.len ≤ most_record forms
   text_short = let r = record_short forms file origin k in let c = holds_record.count in omega arith
@@ -225,7 +227,7 @@ module _ (forms : Bool) (file : List ℕ) (origin k at to : ℕ) (out₀ out : L
   -- where all n records are accepted, and their texts have room
   pub lines_more : most_record forms * n ≤ length out₀ → (last : List ℕ) (m : ℕ) → m ≡ text.len
       → last ≡ take text.len text.bytes ++ drop text.len (lent out to)
-      → Lines forms file origin (k + 1) (at + d.run.len) (to + m) out₀ (put_mid to (length out - to) out last)
+      → Lines forms file origin (k + 1) (at + run.len) (to + m) out₀ (put_mid to (length out - to) out last)
   lines_more room last m hm e =
       let q = rw (holds_record.shown, holds_record.count) at e in
       let r = lines_in forms file origin k at to out₀ out s n h room in
@@ -233,7 +235,7 @@ module _ (forms : Bool) (file : List ℕ) (origin k at to : ℕ) (out₀ out : L
       let c = holds_record.count in
       let l = text_short in
       record {
-        upto = rw (ran file origin k at d hd).count (step_all file origin k at s.upto n t h).upto;
+        upto = rw (ran file origin k at hd hr).count (step_all file origin k at s.upto n t h).upto;
         ends = rw (lines_next forms file origin k, length-append (lines_of forms file origin k) (record_text forms file origin k)) (omega (arith, s.ends));
         front = rw (lines_next forms file origin k) (front_next (lines_of forms file origin k) (record_text forms file origin k) out₀ out last to s.front s.ends (omega arith) q);
       }

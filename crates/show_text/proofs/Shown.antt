@@ -1,15 +1,16 @@
 -- What a show that is accepted prints, and that no file is refused with 9.
 -- Assumes nothing.
+use Rattle.std.specs.Prelude.{Err, Ok, Result}
 use mathlib.Core.Path.{◌≡◌, refl, ◌∙◌}
 use mathlib.Core.Bool.{Bool, true, false}
 use mathlib.Core.List.{List, ◌++◌}
 use Prim.Native.Nat.{ℕ, zero, suc, ◌+◌, ◌*◌, ◌-◌, ◌≤◌}
 use native.Mathlib.Omega.{arith}
-use lib.Dec.{eqb, ltb, leb}
+use lib.Dec.{ltb, leb}
 use lib.ListN.{length, take, drop, length-append}
 use borrow.Author.Tests.{le-leb, leb-true}
 use borrow.Rule.Slice.PartMut.{put_mid}
-use Rattle.mrc_compiler.specs.Choose.{pick, both}
+use Rattle.mrc_compiler.specs.Choose.{pick}
 use Rattle.mrc_compiler.specs.Refusals.{report_of}
 use Rattle.encode_spec.specs.Answer.{Answer, bytes, refused}
 use Rattle.encode_spec.proofs.Outcomes.{number_in, answer_not_nine}
@@ -19,34 +20,32 @@ use Rattle.show_file.specs.declared.LoadError.TheVariants as E
 use Rattle.show_file.specs.Show.{header, insn_at, first_unknown}
 use Rattle.show_file.proofs.Opening.{by_opening}
 use Rattle.show_file.specs.Refusals.{number_of}
-use Rattle.show_load.specs.declared.Loaded.{Loaded}
-use Rattle.show_load.specs.declared.Loaded.TheVariants as L
 use Rattle.show_load.specs.Loading.{Walk, all, stopped, offset_behind, answer_at, followed, further, walk, measured, show_accepted, accepted_by, accepted, fitted}
 use Rattle.base_values.proofs.Fronts.{Front, front_is, front_next, lent, lent_length}
 use Rattle.show_load.proofs.Laws.{accepted_image, within_seven}
 use Rattle.text_line.specs.declared.Line.{Line}
 use Rattle.text_line.specs.Steps.{line_length, empty_line, appended}
-use Rattle.show_text.specs.Text.{first_line, refused_line, lines_of, text_records, image_length, show_text, refused_ground, text_by, text, most_line, most_record, most_text, listed}
-use Rattle.show_text.specs.declared.Listed.TheVariants.{Length as listed_as_length, TooShort as listed_as_too_short}
+use Rattle.show_text.specs.Text.{first_line, lines_of, text_records, image_length, show_text, text_by, text, most_record, most_text, listed}
+use Rattle.text_line.specs.declared.TooShort.{TooShort}
 use Rattle.show_text.proofs.Laws.{first_length, first_holds, refused_text_length, lines_short, room_of}
 
 -- ---- an image of 7,000 bytes holds every show that is printed: a record has at most seven
-abbrev taken : List ℕ → Loaded
+abbrev taken : List ℕ → Result (Header × ℕ) LoadError
 taken file = accepted text_records file
 
 pub all_fit : (file : List ℕ) → fitted file image_length (taken file) ≡ taken file
 all_fit file = go (taken file) refl
   where
-    go : (l : Loaded) → taken file ≡ l → fitted file image_length l ≡ l
-    go (L.Refused e) q = refl
-    go (L.Image h n) q =
+    go : (l : Result (Header × ℕ) LoadError) → taken file ≡ l → fitted file image_length l ≡ l
+    go (Err e) q = refl
+    go (Ok (h, n)) q =
         let x = accepted_image text_records file h n q in
         let w = within_seven file h.origin h.count in
         let few = x.exact.its_limit in
         let e = x.size in
         rw (le-leb n image_length (omega arith))
 
-pub text_is : (forms : Bool) (file : List ℕ) (l : Loaded) → taken file ≡ l → text forms file ≡ text_by forms file l
+pub text_is : (forms : Bool) (file : List ℕ) (l : Result (Header × ℕ) LoadError) → taken file ≡ l → text forms file ≡ text_by forms file l
 unfolding text
 text_is forms file l e = rw (all_fit file, e) refl
 
@@ -56,20 +55,20 @@ module _ (forms : Bool) (file : List ℕ) where
   unfolding show_text
   text_most = go (taken file) refl
     where
-      go : (l : Loaded) → taken file ≡ l → length (text forms file) ≤ most_text forms
-      go (L.Refused e) q = let a = refused_text_length forms file e in rw (text_is forms file (L.Refused e) q) (omega arith)
-      go (L.Image h n) q =
+      go : (l : Result (Header × ℕ) LoadError) → taken file ≡ l → length (text forms file) ≤ most_text forms
+      go (Err e) q = let a = refused_text_length forms file e in rw (text_is forms file (Err e) q) (omega arith)
+      go (Ok (h, n)) q =
           let few = room_of forms h.count (accepted_image text_records file h n q).exact.its_limit in
           let a = first_length h in
           let b = lines_short forms file h.origin h.count in
-          rw (text_is forms file (L.Image h n) q, length-append (first_line h) (lines_of forms file h.origin h.count)) (omega arith)
+          rw (text_is forms file (Ok (h, n)) q, length-append (first_line h) (lines_of forms file h.origin h.count)) (omega arith)
 
   -- and it fits where a length is answered
-  pub listed_fits : (size n : ℕ) → listed forms file size ≡ listed_as_length n → n ≤ size
+  pub listed_fits : (size n : ℕ) → listed forms file size ≡ Ok n → n ≤ size
   unfolding listed
   listed_fits size n = go (leb (most_text forms) size) refl
     where
-      go : (t : Bool) → leb (most_text forms) size ≡ t → pick t (listed_as_length (length (text forms file))) listed_as_too_short ≡ listed_as_length n → n ≤ size
+      go : (t : Bool) → leb (most_text forms) size ≡ t → pick {A = Result ℕ TooShort} t (Ok (length (text forms file))) (Err (record {})) ≡ Ok n → n ≤ size
       go true h e =
           let q : length (text forms file) ≡ n = cc in
           let m = text_most in
@@ -131,9 +130,9 @@ unfolding walk
 walk_not file origin zero = λ q. omega arith
 walk_not file origin (suc n) = further_not file origin n (walk file origin n) (walk_not file origin n)
 
-abbrev NotNine : Loaded → Type 0
-NotNine (L.Image h n) = Unit {0}
-NotNine (L.Refused e) = number_of e ≡ 9 → ⊥
+abbrev NotNine : Result (Header × ℕ) LoadError → Type 0
+NotNine (Ok (h, n)) = Unit {0}
+NotNine (Err e) = number_of e ≡ 9 → ⊥
 
 measured_not : (h : Header) (w : Walk) → (number_on w ≡ 9 → ⊥) → NotNine (measured h w)
 measured_not h (stopped k e) b = b
@@ -143,7 +142,7 @@ show_not : (file : List ℕ) (h : Header) → NotNine (show_accepted file h)
 unfolding show_accepted
 show_not file h = go (ltb (first_unknown file h.count) h.count)
   where
-    go : (b : Bool) → NotNine (pick b (L.Refused (E.UnknownCode (first_unknown file h.count))) (measured h (walk file h.origin h.count)))
+    go : (b : Bool) → NotNine (pick b (Err (E.UnknownCode (first_unknown file h.count))) (measured h (walk file h.origin h.count)))
     go true = λ q. omega arith
     go false = measured_not h (walk file h.origin h.count) (walk_not file h.origin h.count)
 
@@ -152,5 +151,5 @@ accepted_not : (file : List ℕ) → NotNine (taken file)
 accepted_not file =
     by_opening text_records file (λ o. NotNine (accepted_by file o)) (λ q. omega arith) (λ q. omega arith) (λ q. omega arith) (λ x. show_not file (header file))
 
-pub never_nine : (file : List ℕ) (e : LoadError) → taken file ≡ L.Refused e → number_of e ≡ 9 → ⊥
+pub never_nine : (file : List ℕ) (e : LoadError) → taken file ≡ Err e → number_of e ≡ 9 → ⊥
 never_nine file e q = let n = accepted_not file in rw q at n

@@ -1,20 +1,17 @@
 -- The texts of a show file, which `fsqlist` and `fsqform` print (REFERENCE 9), in ASCII.
 -- Definitions only.
-use Rattle.std.specs.Prelude.{ℕ, zero, suc, ◌+◌, ◌*◌, Bool, List, [], ◌∷◌, ◌++◌, leb, length, drop}
+use Rattle.std.specs.Prelude.{ℕ, zero, suc, ◌+◌, ◌*◌, Bool, List, [], ◌∷◌, ◌++◌, leb, length, drop, Result, Ok, Err}
 use Rattle.mrc_compiler.specs.Choose.{pick}
 use Rattle.show_file.specs.declared.Header.{Header}
 use Rattle.show_file.specs.declared.LoadError.{LoadError}
 use Rattle.show_file.specs.declared.LoadError.TheVariants as E
 use Rattle.show_file.specs.Show.{header, insn_at}
 use Rattle.show_file.specs.Refusals.{number_of}
-use Rattle.show_load.specs.declared.Loaded.{Loaded}
-use Rattle.show_load.specs.declared.Loaded.TheVariants as L
 use Rattle.show_load.specs.Loading.{offset_behind, answer_at, bytes_of, walk, bytes_in, accepted, fitted}
 use Rattle.encode_form.specs.Ground.{ground}
+use Rattle.text_line.specs.declared.TooShort.{TooShort}
 use Rattle.text_line.specs.Numbers.{blank, line_feed, hex_word, hex_bytes, decimal}
 use Rattle.text_form.specs.Lines.{ground_line, most_ground}
-use Rattle.show_text.specs.declared.Listed.{Listed}
-use Rattle.show_text.specs.declared.Listed.TheVariants as T
 
 -- ---- lines
 -- "FSQ ": version, origin, count
@@ -81,9 +78,9 @@ refused_ground file E.WrongLength = []
 refused_ground file (E.UnknownCode k) = []
 refused_ground file (E.Record k e) = ground_at file (header file).origin k
 
-abbrev pub text_by : Bool → List ℕ → Loaded → List ℕ
-text_by forms file (L.Image h n) = show_text forms file h
-text_by forms file (L.Refused e) = refused_line e ++ pick forms (refused_ground file e) []
+abbrev pub text_by : Bool → List ℕ → Result (Header × ℕ) LoadError → List ℕ
+text_by forms file (Ok (h, n)) = show_text forms file h
+text_by forms file (Err e) = refused_line e ++ pick forms (refused_ground file e) []
 
 unfoldable pub text : Bool → List ℕ → List ℕ
 text forms file = text_by forms file (fitted file image_length (accepted text_records file))
@@ -100,8 +97,8 @@ most_record forms = most_line + pick forms most_ground 0
 abbrev pub most_text : Bool → ℕ
 most_text forms = most_line + most_record forms * text_records
 
-unfoldable pub listed : Bool → List ℕ → ℕ → Listed
-listed forms file size = pick (leb (most_text forms) size) (T.Length (length (text forms file))) T.TooShort
+unfoldable pub listed : Bool → List ℕ → ℕ → Result ℕ TooShort
+listed forms file size = pick (leb (most_text forms) size) (Ok (length (text forms file))) (Err (record {}))
 
 -- the text at the front of the slice
 unfoldable pub slice_after : Bool → List ℕ → List ℕ → List ℕ

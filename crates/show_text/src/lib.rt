@@ -5,7 +5,6 @@ ghost use Rattle.std.specs.Prelude.{◌≡◌, true, false, [], ◌++◌, ◌*�
 ghost use Rattle.mrc_compiler.specs.Choose.{pick};
 ghost use Rattle.encode_form.specs.ByBytes.{question_by};
 ghost use Rattle.show_file.specs.Show.{record_place, most_records, insn_at};
-ghost use Rattle.show_load.specs.declared.Loaded.TheVariants.{Refused};
 ghost use Rattle.show_load.specs.Loading.{walk, is_all, accepted};
 ghost use Rattle.text_form.specs.Lines.{question_line};
 ghost use Rattle.text_line.specs.Numbers.{hex_bytes};
@@ -16,16 +15,10 @@ ghost use Rattle.show_text.specs.Forms.{form_at, question_of};
 use encode_run::ByteRun;
 use mrc_compiler::encoder::EncodeError;
 use show_file::{Header, LoadError, insn_at};
-use show_load::Loaded;
 use text_line::{
-    Line, empty_line, push, push_decimal, push_hex_byte, push_hex_word, push_text, write_line,
+    Line, TooShort, empty_line, push, push_decimal, push_hex_byte, push_hex_word, push_text,
+    write_line,
 };
-
-#[derive(Clone, Copy)]
-pub enum Listed {
-    Length(usize),
-    TooShort,
-}
 
 // A show of more records is refused, as one of more than its version has.
 const TEXT_RECORDS: u16 = 1000;
@@ -54,13 +47,9 @@ fn push_run(line: Line, run: ByteRun) -> Line
     requires { run.len ≤ 7 }
     ensures { result ≡ appended line (hex_bytes (take run.len run.bytes)) }
 {
-    let n = run.len;
     let mut so_far = line;
-    let mut i = 0;
-    while i < n {
-        let b = run.bytes[i];
-        so_far = push_hex_byte(so_far, b);
-        i += 1;
+    for &byte in &run.bytes[..run.len] {
+        so_far = push_hex_byte(so_far, byte);
     }
     so_far
 }
@@ -71,8 +60,7 @@ fn line_of(offset: u16, run: ByteRun) -> Line
 {
     let place = push_hex_word(empty_line(), offset);
     let behind_place = push(place, 0x20);
-    let n = run.len;
-    let length = push_decimal(behind_place, n);
+    let length = push_decimal(behind_place, run.len);
     let behind_length = push(length, 0x20);
     let bytes = push_run(behind_length, run);
     push(bytes, 0x0A)
@@ -83,11 +71,8 @@ fn push_record(line: Line, error: LoadError) -> Line
     ensures { result ≡ appended line (record_of error) }
 {
     match error {
-        LoadError::NoMark => push(line, 0x2D),
-        LoadError::WrongVersion => push(line, 0x2D),
-        LoadError::WrongLength => push(line, 0x2D),
-        LoadError::UnknownCode(k) => push_decimal(line, k),
-        LoadError::Record(k, _) => push_decimal(line, k),
+        LoadError::NoMark | LoadError::WrongVersion | LoadError::WrongLength => push(line, 0x2D),
+        LoadError::UnknownCode(k) | LoadError::Record(k, _) => push_decimal(line, k),
     }
 }
 
@@ -102,6 +87,7 @@ fn refused_line(error: LoadError) -> Line
 }
 
 // ---- grounds
+// `forms` is the Bool of `text` and `listed` in specs/Text, which stay: a closure for the line under a record would need it beside itself in each contract.
 // The form of record k, which is accepted with the bytes of run, behind its line.
 fn push_form_at(line: Line, file: &[u8], n: usize, k: usize, run: ByteRun, forms: bool) -> Line
     requires { (length file.now ≡ record_place file.now n) × (n ≤ most_records) × (k < n) }
@@ -128,22 +114,15 @@ fn push_question_at(line: Line, file: &[u8], n: usize, k: usize, error: EncodeEr
 
 // The question behind the line of a refusal. A file that is asked about its records has so many as its header counts.
 fn push_question_of(line: Line, file: &[u8], error: LoadError, forms: bool) -> Line
-    requires { accepted text_records file.now ≡ Refused error }
+    requires { accepted text_records file.now ≡ Err error }
     ensures { result ≡ appended line (pick forms (question_of file.now error) []) }
 {
-    if forms {
-        match error {
-            LoadError::NoMark => line,
-            LoadError::WrongVersion => line,
-            LoadError::WrongLength => line,
-            LoadError::UnknownCode(_) => line,
-            LoadError::Record(k, e) => {
-                let n = show_file::record_count(file);
-                push_question_at(line, file, n, k, e)
-            }
-        }
-    } else {
-        line
+    match error {
+        LoadError::Record(k, e) if forms => {
+            let n = show_file::record_count(file);
+            push_question_at(line, file, n, k, e)
+        },
+        _ => line,
     }
 }
 
@@ -154,21 +133,15 @@ fn write_lines(file: &[u8], n: usize, origin: u16, forms: bool, out: &mut [u8]) 
     ensures value { result ≡ length (lines_of forms file.now origin n) }
     ensures out_after { out.new ≡ lines_of forms file.now origin n ++ drop (length (lines_of forms file.now origin n)) out.old }
 {
-    let mut k = 0;
     let mut at = 0;
     let mut to = 0;
-    while k < n {
-        let step = show_load::run_at(file, n, origin, k, at);
-        let run = step.run;
+    for k in 0..n {
+        let run = show_load::run_at(file, n, origin, k, at).unwrap();
         let offset = show_load::offset_behind(origin, at);
         let line = line_of(offset, run);
         let text = push_form_at(line, file, n, k, run, forms);
-        let part = &mut out[to..];
-        let m = write_line(text, part);
-        let size = run.len;
-        at = at + size;
-        to = to + m;
-        k += 1;
+        to += write_line(text, &mut out[to..]);
+        at += run.len;
     }
     to
 }
@@ -179,13 +152,9 @@ fn write_show(file: &[u8], header: Header, forms: bool, out: &mut [u8]) -> usize
     ensures value { result ≡ length (show_text forms file.now header) }
     ensures out_after { out.new ≡ show_text forms file.now header ++ drop (length (show_text forms file.now header)) out.old }
 {
+    let to = write_line(first_line(header), out);
     let n = header.count as usize;
-    let origin = header.origin;
-    let line = first_line(header);
-    let to = write_line(line, out);
-    let part = &mut out[to..];
-    let m = write_lines(file, n, origin, forms, part);
-    to + m
+    to + write_lines(file, n, header.origin, forms, &mut out[to..])
 }
 
 // What a slice must hold to be lent.
@@ -195,31 +164,25 @@ fn most_of(forms: bool) -> usize
     if forms { MOST_FORMS } else { MOST_TEXT }
 }
 
-fn write(file: &[u8], forms: bool, out: &mut [u8]) -> Listed
+fn write(file: &[u8], forms: bool, out: &mut [u8]) -> Result<usize, TooShort>
     ensures value { result ≡ listed forms file.now (length out.old) }
     ensures out_after { out.new ≡ slice_after forms file.now out.old }
 {
     let most = most_of(forms);
     if out.len() < most {
-        return Listed::TooShort;
+        return Err(TooShort);
     }
-    let show = show_load::accept(file, TEXT_RECORDS);
-    match show {
-        Loaded::Refused(e) => {
-            let line = refused_line(e);
-            let text = push_question_of(line, file, e, forms);
-            let n = write_line(text, out);
-            Listed::Length(n)
+    match show_load::accept(file, TEXT_RECORDS) {
+        Err(e) => {
+            let text = push_question_of(refused_line(e), file, e, forms);
+            Ok(write_line(text, out))
         },
-        Loaded::Image(header, _) => {
-            let n = write_show(file, header, forms, out);
-            Listed::Length(n)
-        },
+        Ok((header, _)) => Ok(write_show(file, header, forms, out)),
     }
 }
 
 // Writes the text of a show file to the front of out, and answers its length. A slice shorter than MOST_TEXT stays as it was.
-pub fn write_text(file: &[u8], out: &mut [u8]) -> Listed
+pub fn write_text(file: &[u8], out: &mut [u8]) -> Result<usize, TooShort>
     ensures value { result ≡ listed false file.now (length out.old) }
     ensures out_after { out.new ≡ slice_after false file.now out.old }
 {
@@ -227,7 +190,7 @@ pub fn write_text(file: &[u8], out: &mut [u8]) -> Listed
 }
 
 // The same of the text with forms, and of MOST_FORMS.
-pub fn write_forms(file: &[u8], out: &mut [u8]) -> Listed
+pub fn write_forms(file: &[u8], out: &mut [u8]) -> Result<usize, TooShort>
     ensures value { result ≡ listed true file.now (length out.old) }
     ensures out_after { out.new ≡ slice_after true file.now out.old }
 {

@@ -1,5 +1,6 @@
 -- How long the line of a ground is.
 -- Assumes nothing.
+use Rattle.std.specs.Prelude.{Option, Some, None}
 use mathlib.Core.Path.{◌≡◌}
 use mathlib.Core.Bool.{Bool, true, false}
 use mathlib.Core.List.{[], ◌∷◌, ◌++◌}
@@ -15,10 +16,7 @@ use Rattle.mrc_compiler.specs.declared.encoder.OperandSize.{OperandSize}
 use Rattle.mrc_compiler.specs.declared.encoder.OperandSize.TheVariants as S
 use Rattle.mrc_compiler.specs.Choose.{pick}
 use Rattle.encode_spec.specs.Records.{dst, src}
-use Rattle.encode_form.specs.declared.Digit.{Digit}
-use Rattle.encode_form.specs.declared.Digit.TheVariants as D
 use Rattle.encode_form.specs.declared.Limits.{Limits}
-use Rattle.encode_form.specs.declared.Limits.TheVariants as L
 use Rattle.encode_form.specs.declared.Written.{Written}
 use Rattle.encode_form.specs.declared.Ground.{Ground}
 use Rattle.encode_form.specs.declared.Ground.TheVariants as G
@@ -39,9 +37,9 @@ size_length S.Unspecified = omega arith
 size_length S.Byte = omega arith
 size_length S.Word = omega arith
 
-digit_text_length : (d : Digit) → length (digit_text d) ≤ 7
-digit_text_length D.None = omega arith
-digit_text_length (D.Is n) = let l = decimal-length n in omega arith
+digit_text_length : (d : Option ℕ) → length (digit_text d) ≤ 7
+digit_text_length None = omega arith
+digit_text_length (Some n) = let l = decimal-length n in omega arith
 
 operand_length : (o : OperandData) → length (operand_text o) ≤ 16
 unfolding operand_text
@@ -58,12 +56,12 @@ used_length m n o = go (leb m n)
     go true = operand_length o
     go false = omega arith
 
-limits_length : (l : Limits) → length (limits_text l) ≤ 15
-limits_length L.None = omega arith
-limits_length (L.Between l h) =
-    let x = signed-length l in
-    let y = signed-length h in
-    omega (arith, length-append (signed l) (0x2E ∷ 0x2E ∷ signed h))
+limits_length : (l : Option Limits) → length (limits_text l) ≤ 15
+limits_length None = omega arith
+limits_length (Some l) =
+    let x = signed-length l.low in
+    let y = signed-length l.high in
+    omega (arith, length-append (signed l.low) (0x2E ∷ 0x2E ∷ signed l.high))
 
 form_length : (w : Written) (a b : OperandData) → length (form_line w a b) ≤ most_ground
 unfolding form_line

@@ -1,10 +1,9 @@
 -- The line that `fsqform` prints for a ground (REFERENCE 9), in ASCII.
 -- Definitions only.
-use Rattle.std.specs.Prelude.{ℕ, List, [], ◌∷◌, ◌++◌, leb, length, drop}
+use Rattle.std.specs.Prelude.{ℕ, List, [], ◌∷◌, ◌++◌, leb, length, drop, Option, Some, None, Err, Ok, Result}
+use Rattle.mrc_compiler.specs.declared.encoder.EncodeError.{EncodeError}
 use Rattle.mrc_compiler.specs.declared.ast.Span.{Span}
 use Rattle.mrc_compiler.specs.declared.encoder.EncodeError.TheVariants as E
-use Rattle.mrc_compiler.specs.declared.encoder.Encoded.{Encoded}
-use Rattle.mrc_compiler.specs.declared.encoder.Encoded.TheVariants as N
 use Rattle.mrc_compiler.specs.declared.encoder.InstructionData.{InstructionData}
 use Rattle.mrc_compiler.specs.declared.encoder.OperandData.{OperandData}
 use Rattle.mrc_compiler.specs.declared.encoder.OperandKind.{OperandKind}
@@ -13,10 +12,7 @@ use Rattle.mrc_compiler.specs.declared.encoder.OperandSize.{OperandSize}
 use Rattle.mrc_compiler.specs.declared.encoder.OperandSize.TheVariants as S
 use Rattle.mrc_compiler.specs.Choose.{pick}
 use Rattle.encode_spec.specs.Records.{dst, src}
-use Rattle.encode_form.specs.declared.Digit.{Digit}
-use Rattle.encode_form.specs.declared.Digit.TheVariants as D
 use Rattle.encode_form.specs.declared.Limits.{Limits}
-use Rattle.encode_form.specs.declared.Limits.TheVariants as L
 use Rattle.encode_form.specs.declared.Written.{Written}
 use Rattle.encode_form.specs.declared.Ground.{Ground}
 use Rattle.encode_form.specs.declared.Ground.TheVariants as G
@@ -36,9 +32,9 @@ size_name S.Byte = 0x42 ∷ 0x79 ∷ 0x74 ∷ 0x65 ∷ []
 size_name S.Word = 0x57 ∷ 0x6F ∷ 0x72 ∷ 0x64 ∷ []
 
 -- " /n", or nothing
-abbrev pub digit_text : Digit → List ℕ
-digit_text D.None = []
-digit_text (D.Is n) = blank ∷ 0x2F ∷ decimal n
+abbrev pub digit_text : Option ℕ → List ℕ
+digit_text None = []
+digit_text (Some n) = blank ∷ 0x2F ∷ decimal n
 
 -- " kind:size"
 unfoldable pub operand_text : OperandData → List ℕ
@@ -49,9 +45,9 @@ unfoldable pub used_text : ℕ → ℕ → OperandData → List ℕ
 used_text at_least n o = pick (leb at_least n) (operand_text o) []
 
 -- " low..high", or " -"
-abbrev pub limits_text : Limits → List ℕ
-limits_text L.None = blank ∷ 0x2D ∷ []
-limits_text (L.Between l h) = blank ∷ signed l ++ (0x2E ∷ 0x2E ∷ signed h)
+abbrev pub limits_text : Option Limits → List ℕ
+limits_text None = blank ∷ 0x2D ∷ []
+limits_text (Some l) = blank ∷ signed l.low ++ (0x2E ∷ 0x2E ∷ signed l.high)
 
 -- "form ": opcode, digit, operands, limits
 unfoldable pub form_line : Written → OperandData → OperandData → List ℕ
@@ -71,8 +67,8 @@ ground_line (G.Question n) insn = question_line n
 abbrev pub most_ground : ℕ
 most_ground = 64
 
-abbrev pub explained : List ℕ → Span → List ℕ → Encoded
-explained line span out = pick (leb most_ground (length out)) (N.Length (length line)) (N.Refused (E.SliceTooShort span))
+abbrev pub explained : List ℕ → Span → List ℕ → Result ℕ EncodeError
+explained line span out = pick (leb most_ground (length out)) (Ok (length line)) (Err (E.SliceTooShort span))
 
 abbrev pub explained_in : List ℕ → List ℕ → List ℕ
 explained_in line out = pick (leb most_ground (length out)) (line ++ drop (length line) out) out

@@ -5,8 +5,12 @@ ghost use Rattle.std.specs.Prelude.{◌≡◌, ◌++◌, ◌≤◌, length, take
 ghost use Rattle.text_line.specs.Numbers.{hex_digit, hex_byte, hex_word, digit_from, decimal, long_decimal, sign, signed, long_signed};
 ghost use Rattle.text_line.specs.Steps.{line_length, empty_line, pushed, appended};
 
+/// The lent slice is too short for the text, of which nothing was written.
+#[derive(Clone, Copy, Debug, PartialEq, Eq)]
+pub struct TooShort;
+
 // A line of text: bytes and how many of them are there.
-#[derive(Clone, Copy)]
+#[derive(Clone, Copy, Debug, PartialEq, Eq)]
 pub struct Line {
     pub bytes: [u8; 96],
     pub len: usize,
@@ -22,29 +26,23 @@ pub fn empty_line() -> Line
 }
 
 // One byte more; a full line stays as it is.
-pub fn push(line: Line, byte: u8) -> Line
+pub fn push(mut line: Line, byte: u8) -> Line
     ensures { result ≡ pushed line byte }
 {
     let at = line.len;
     if at < 96 {
-        let mut next = line;
-        next.bytes[at] = byte;
-        next.len = at + 1;
-        next
-    } else {
-        line
+        line.bytes[at] = byte;
+        line.len = at + 1;
     }
+    line
 }
 
 pub fn push_text(line: Line, text: &[u8]) -> Line
     ensures { result ≡ appended line text.now }
 {
     let mut so_far = line;
-    let mut i = 0;
-    while i < text.len() {
-        let b = text[i];
-        so_far = push(so_far, b);
-        i += 1;
+    for &byte in text {
+        so_far = push(so_far, byte);
     }
     so_far
 }
@@ -57,13 +55,12 @@ fn hex_digit(d: u8) -> u8
     if d < 10 { 0x30 + d } else { 0x37 + d }
 }
 
+#[tactic(auto, unfolding(crate::specs::Numbers::hex_byte))]
 pub fn push_hex_byte(line: Line, b: u8) -> Line
     ensures { result ≡ appended line (hex_byte b) }
 {
-    let high = hex_digit(b / 16);
-    let low = hex_digit(b % 16);
-    let first = push(line, high);
-    push(first, low)
+    let first = push(line, hex_digit(b / 16));
+    push(first, hex_digit(b % 16))
 }
 
 pub fn push_hex_word(line: Line, w: u16) -> Line
@@ -74,6 +71,7 @@ pub fn push_hex_word(line: Line, w: u16) -> Line
 }
 
 // The digit of a place where the number reaches that place.
+#[tactic(auto, unfolding(crate::specs::Numbers::digit_from))]
 fn push_digit(line: Line, place: usize, n: usize) -> Line
     requires { 10 ≤ place }
     ensures { result ≡ appended line (digit_from place n) }
@@ -108,26 +106,31 @@ pub fn push_long(line: Line, n: usize) -> Line
 }
 
 // A minus before what is below 0.
+#[tactic(auto, unfolding(crate::specs::Numbers::sign))]
 fn push_sign(line: Line, value: i32) -> Line
     ensures { result ≡ appended line (sign value) }
 {
     if value < 0 { push(line, 0x2D) } else { line }
 }
 
-// A number of up to five digits with its sign.
+// A number of up to five digits with its sign. The two of these are a line each: a parameter for who writes the digits would be longer.
 pub fn push_signed(line: Line, value: i32) -> Line
     ensures { result ≡ appended line (signed value) }
 {
-    let signed = push_sign(line, value);
-    push_decimal(signed, base_values::magnitude(value) as usize)
+    push_decimal(
+        push_sign(line, value),
+        base_values::magnitude(value) as usize,
+    )
 }
 
 // Any i32 with its sign.
 pub fn push_long_signed(line: Line, value: i32) -> Line
     ensures { result ≡ appended line (long_signed value) }
 {
-    let signed = push_sign(line, value);
-    push_long(signed, base_values::magnitude(value) as usize)
+    push_long(
+        push_sign(line, value),
+        base_values::magnitude(value) as usize,
+    )
 }
 
 // ---- the slice that it goes to
@@ -138,11 +141,6 @@ pub fn write_line(line: Line, out: &mut [u8]) -> usize
     ensures out_after { out.new ≡ take line.len line.bytes ++ drop line.len out.old }
 {
     let n = line.len;
-    let mut i = 0;
-    while i < n {
-        let b = line.bytes[i];
-        out[i] = b;
-        i += 1;
-    }
+    out[..n].copy_from_slice(&line.bytes[..n]);
     n
 }

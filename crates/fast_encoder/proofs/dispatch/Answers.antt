@@ -1,3 +1,4 @@
+use Rattle.encode_lines.specs.Lines.{invalid_operands, invalid_size, size_not_specified, size_not_specified_first}
 use mathlib.Core.Path.{◌≡◌, refl, sym, ap}
 use native.Mathlib.Omega.{arith}
 use Prim.Native.Nat.{◌+◌, ◌%◌}
@@ -428,28 +429,28 @@ unfolding decided_at operand_at
 returns-in-164 c =
     λ h. let k = keyed _ c.args.code c.requires c.row_of-row.result _ c.row_of-row.ensures c.in-164.is (lit< tt) in
     let z = c.shift_one.ensures c.args.offset h in
-    (k.known, rw (k.group_is, k.base_is, stated_at _ c.requires z.0, k.first_is, k.second_is) z.1)
+    (k.known, rw (k.group_is, k.base_is, stated_at _ c.requires z.0 size_not_specified_first, k.first_is, k.second_is) z.1)
 
 pub returns-in-165 : goal.returns-in-165
 unfolding decided_at operand_at
 returns-in-165 c =
     λ h. let k = keyed _ c.args.code c.requires c.row_of-row.result _ c.row_of-row.ensures c.in-165.is (lit< tt) in
     let z = c.shift_cl.ensures c.args.offset h in
-    (k.known, rw (k.group_is, k.base_is, stated_at _ c.requires z.0, k.first_is, k.second_is) z.1)
+    (k.known, rw (k.group_is, k.base_is, stated_at _ c.requires z.0 size_not_specified_first, k.first_is, k.second_is) z.1)
 
 pub returns-in-172 : goal.returns-in-172
 unfolding decided_at operand_at
 returns-in-172 c =
     λ h. let k = keyed _ c.args.code c.requires c.row_of-row.result _ c.row_of-row.ensures c.in-172.is (lit< tt) in
     let z = c.shift_one-in-172.ensures c.args.offset h in
-    (k.known, rw (k.group_is, k.base_is, stated_at _ c.requires z.0, k.first_is, k.second_is) z.1)
+    (k.known, rw (k.group_is, k.base_is, stated_at _ c.requires z.0 size_not_specified_first, k.first_is, k.second_is) z.1)
 
 pub returns-in-173 : goal.returns-in-173
 unfolding decided_at operand_at
 returns-in-173 c =
     λ h. let k = keyed _ c.args.code c.requires c.row_of-row.result _ c.row_of-row.ensures c.in-173.is (lit< tt) in
     let z = c.shift_cl-in-173.ensures c.args.offset h in
-    (k.known, rw (k.group_is, k.base_is, stated_at _ c.requires z.0, k.first_is, k.second_is) z.1)
+    (k.known, rw (k.group_is, k.base_is, stated_at _ c.requires z.0 size_not_specified_first, k.first_is, k.second_is) z.1)
 
 pub returns-in-176 : goal.returns-in-176
 unfolding decided_at operand_at
@@ -508,28 +509,28 @@ unfolding decided_at operand_at
 returns-in-276 c =
     λ h. let k = keyed _ c.args.code c.requires c.row_of-row.result _ c.row_of-row.ensures c.in-276.is (lit< tt) in
     let z = c.port_imm.ensures 1 c.args.offset refl h in
-    (k.known, rw (k.group_is, stated_at _ c.requires z.0, k.first_is, k.second_is, z.1.0) z.1.1)
+    (k.known, rw (k.group_is, stated_at _ c.requires z.0 invalid_operands, k.first_is, k.second_is, z.1.0) z.1.1)
 
 pub returns-in-277 : goal.returns-in-277
 unfolding decided_at operand_at
 returns-in-277 c =
     λ h. let k = keyed _ c.args.code c.requires c.row_of-row.result _ c.row_of-row.ensures c.in-277.is (lit< tt) in
     let z = c.port_dx.ensures h in
-    (k.known, rw (k.group_is, stated_at _ c.requires z.0, k.first_is, k.second_is, z.1.0, z.1.1.0.0, z.1.1.0.1) (ap bytes (sym z.1.1.1)))
+    (k.known, rw (k.group_is, stated_at _ c.requires z.0 invalid_operands, k.first_is, k.second_is, z.1.0, z.1.1.0.0, z.1.1.0.1) (ap bytes (sym z.1.1.1)))
 
 pub returns-in-289 : goal.returns-in-289
 unfolding decided_at operand_at
 returns-in-289 c =
     λ h. let k = keyed _ c.args.code c.requires c.row_of-row.result _ c.row_of-row.ensures c.in-289.is (lit< tt) in
     let z = c.port_imm-in-289.ensures 0 c.args.offset refl h in
-    (k.known, rw (k.group_is, stated_second _ c.requires z.0, k.first_is, k.second_is, z.1.0) z.1.1)
+    (k.known, rw (k.group_is, stated_second _ c.requires z.0 invalid_operands, k.first_is, k.second_is, z.1.0) z.1.1)
 
 pub returns-in-293 : goal.returns-in-293
 unfolding decided_at operand_at
 returns-in-293 c =
     λ h. let k = keyed _ c.args.code c.requires c.row_of-row.result _ c.row_of-row.ensures c.in-293.is (lit< tt) in
     let z = c.port_dx-in-293.ensures h in
-    (k.known, rw (k.group_is, stated_second _ c.requires z.0, k.first_is, k.second_is, z.1.0, z.1.1.0.0, z.1.1.0.1) (ap bytes (sym z.1.1.1)))
+    (k.known, rw (k.group_is, stated_second _ c.requires z.0 invalid_operands, k.first_is, k.second_is, z.1.0, z.1.1.0.0, z.1.1.0.1) (ap bytes (sym z.1.1.1)))
 
 pub returns-in-336 : goal.returns-in-336
 unfolding decided_at operand_at
@@ -554,14 +555,14 @@ unfolding decided_at operand_at
 returns-in-68-to-71 c =
     λ h. let k = four _ c.args.code c.requires c.row_of-row.result 68 c.row_of-row.ensures refl (lit< tt) c.in-68-to-71.if-this-lt68-own.false c.in-68-to-71.if-this-lt72-own.true in
     let z = c.rm_alone.ensures c.args.offset h in
-    (k.known, rw (k.group_is, k.base_is, stated_at _ c.requires z.0, k.first_is) z.1)
+    (k.known, rw (k.group_is, k.base_is, stated_at _ c.requires z.0 size_not_specified, k.first_is) z.1)
 
 pub returns-in-76-to-79 : goal.returns-in-76-to-79
 unfolding decided_at operand_at
 returns-in-76-to-79 c =
     λ h. let k = four _ c.args.code c.requires c.row_of-row.result 76 c.row_of-row.ensures refl (lit< tt) c.in-76-to-79.if-this-lt76-own.false c.in-76-to-79.if-this-lt80-own.true in
     let z = c.rm_alone-in-76-to-79.ensures c.args.offset h in
-    (k.known, rw (k.group_is, k.base_is, stated_at _ c.requires z.0, k.first_is) z.1)
+    (k.known, rw (k.group_is, k.base_is, stated_at _ c.requires z.0 size_not_specified, k.first_is) z.1)
 
 pub returns-else-own-eq2 : goal.returns-else-own-eq2
 unfolding decided_at operand_at
@@ -569,14 +570,14 @@ returns-else-own-eq2 c =
     λ h. let k = four _ c.args.code c.requires c.row_of-row.result 84 c.row_of-row.ensures refl (lit< tt) c.in-84-to-87.if-this-lt84-own.false c.in-84-to-87.if-this-lt88-own.true in
     let z = c.rm_alone-in-84-to-87.ensures c.args.offset h in
     let w = one_left _ z.0 c.requires.first.size c.if-own-eq2.false in
-    (k.known, rw (k.group_is, k.base_is, stated_at _ c.requires z.0, k.first_is, w) (rw w at z.1))
+    (k.known, rw (k.group_is, k.base_is, stated_at _ c.requires z.0 invalid_size, k.first_is, w) (rw w at z.1))
 
 pub returns-in-92-to-95 : goal.returns-in-92-to-95
 unfolding decided_at operand_at
 returns-in-92-to-95 c =
     λ h. let k = four _ c.args.code c.requires c.row_of-row.result 92 c.row_of-row.ensures refl (lit< tt) c.in-92-to-95.if-this-lt92-own.false c.in-92-to-95.if-this-lt96-own.true in
     let z = c.rm_alone-in-92-to-95.ensures c.args.offset h in
-    (k.known, rw (k.group_is, k.base_is, stated_at _ c.requires z.0, k.first_is) z.1)
+    (k.known, rw (k.group_is, k.base_is, stated_at _ c.requires z.0 invalid_size, k.first_is) z.1)
 
 pub returns-else-own-ne2 : goal.returns-else-own-ne2
 unfolding decided_at operand_at

@@ -5,7 +5,4 @@ use Rattle.std.proofs.Common.{◌≡◌, ◌-◌, ◌≤◌}
 use Rattle.show_load.proofs.first_over.Given as goal
 
 abbrev pub invariant-loop-k : goal.invariant-loop-k
-invariant-loop-k l = (l.k ≤ l.n) × (l.at ≤ l.size) × Upto l.file l.origin l.k l.at × (first_over l.file l.origin l.size l.n ≡ first_from (is_over l.file l.origin l.size) (l.n - l.k) l.k)
-
-abbrev pub decreases-loop-k : goal.decreases-loop-k
-decreases-loop-k l = l.n - l.k
+invariant-loop-k l = (l.at ≤ l.size) × Upto l.file l.origin l.k l.at × (first_over l.file l.origin l.size l.n ≡ first_from (is_over l.file l.origin l.size) (l.n - l.k) l.k)

@@ -1,6 +1,6 @@
-use Rattle.show_load.proofs.Laws.{ran}
+use Rattle.show_load.proofs.Laws.{ran, none_ran}
 use Rattle.fast_run.proofs.Laws.{ne_positive, unpacked-length}
-use Rattle.std.proofs.Common.{arith, le-leb}
+use Rattle.std.proofs.Common.{refl, arith, le-leb}
 use Rattle.show_load.proofs.write_record.Goals as goal
 
 pub write_packed-requires : goal.write_packed-requires
@@ -18,13 +18,16 @@ returns-then-packed-ne0 c =
 pub write_run-requires : goal.write_run-requires
 write_run-requires c =
     let a = c.args in
-    let d = c.run_at-step in
-    let r = ran a.file.now a.origin a.k a.at d.result d.ensures in
+    let r = ran a.file.now a.origin a.k a.at c.run_at.ensures c.in-Ok.is in
     omega arith
 
-pub returns : goal.returns
-returns c =
+pub returns-in-Ok : goal.returns-in-Ok
+returns-in-Ok c =
     let b = c in
-    let d = c.run_at-step in
-    let r = ran c.args.file.now c.args.origin c.args.k c.args.at d.result d.ensures in
+    let r = ran c.args.file.now c.args.origin c.args.k c.args.at c.run_at.ensures c.in-Ok.is in
     record { value = r.count; out_after = rw (r.shown, r.count, le-leb _ _ c.requires.3) at c.write_run.ensures.out_after }
+
+pub returns-in-Err : goal.returns-in-Err
+returns-in-Err c =
+    let b = c in
+    rw (none_ran c.args.file.now c.args.origin c.args.k c.args.at c.run_at.ensures c.in-Err.is) (record { value = refl; out_after = refl })

@@ -1,9 +1,7 @@
+use Rattle.std.proofs.Common.{[], ◌∷◌}
 use Rattle.text_line.proofs.Laws.{then}
-use mathlib.Core.List.{[], ◌∷◌}
 use Rattle.text_line.specs.Numbers.{blank, decimal}
 use Rattle.text_form.proofs.push_digit.Goals as goal
 
-pub returns-in-Is : goal.returns-in-Is
-returns-in-Is c =
-    let a = c.args in
-    rw c.in-Is.is (then a.line (blank ∷ 0x2F ∷ []) (decimal _) c.push_text-slash.ensures c.push_decimal.ensures)
+pub returns-in-Some : goal.returns-in-Some
+returns-in-Some c = rw c.in-Some.is (then c.args.line (blank ∷ 0x2F ∷ []) (decimal _) c.push_text.ensures c.push_decimal.ensures)

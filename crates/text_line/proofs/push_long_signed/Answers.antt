@@ -10,4 +10,4 @@ returns c =
     let s = c in
     let e = to_z-of_z w32 c.args.value c.ranges.value in
     let m = rw e at c.magnitude.ensures in
-    then c.args.line (sign c.args.value) (long_decimal (nat_abs c.args.value)) (rw e at c.push_sign-signed.ensures) (rw (← m) c.push_long.ensures)
+    then c.args.line (sign c.args.value) (long_decimal (nat_abs c.args.value)) (rw e at c.push_sign.ensures) (rw (← m) c.push_long.ensures)

@@ -1,4 +1,0 @@
-use Rattle.show_record.proofs.span_at.Goals as goal
-
-pub returns : goal.returns
-returns c = rw (c.u32_at.ensures, c.u32_at-2.ensures)
