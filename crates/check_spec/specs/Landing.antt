@@ -1,11 +1,10 @@
 -- What is proved of a show that the check lets pass, in the terms of its image.
 -- Definitions only.
-use Rattle.std.specs.Prelude.{ℕ, ◌+◌, ◌<◌, ◌≤◌, ◌≡◌, List, length}
+use Rattle.std.specs.Prelude.{ℕ, ◌+◌, ◌<◌, ◌≤◌, ◌≡◌, List, length, Ok}
 use Rattle.x86.specs.declared.Instruction.{Instruction}
 use Rattle.x86.specs.declared.Operand.TheVariants as O
 use Rattle.x86.specs.Listing.{ReadsAs}
 use Rattle.show_file.specs.Show.{header}
-use Rattle.show_load.specs.declared.Loaded.TheVariants as L
 use Rattle.show_load.specs.Loading.{offset_behind, loaded, image_after}
 use Rattle.show_load.specs.Demand2.{part, Loaded2}
 
@@ -29,6 +28,6 @@ module _ (file image : List ℕ) (starts : ℕ → ℕ) where
 
   -- it loads, and all branches in its image land
   pub record AllLand (m : ℕ) : Type 0 where
-    pub loads : loaded file (length image) ≡ L.Image (header file) m
+    pub loads : loaded file (length image) ≡ Ok (header file, m)
     pub records : Loaded2 file (header file) m starts image (image_after file image)
     pub branches : (k t : ℕ) → k < (header file).count → Goes k t → Lands t

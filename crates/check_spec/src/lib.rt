@@ -1,19 +1,28 @@
-// What checking the targets of a show answers (REFERENCE 17). No code: specs and proofs only.
+// What checking the targets of a show answers (REFERENCE 17).
 #![tactic(auto)]
+
+ghost use Rattle.std.specs.Prelude.{◌≡◌};
+ghost use Rattle.check_spec.specs.declared.CheckError.TheVariants as C;
 
 use show_file::LoadError;
 
-#[derive(Clone, Copy)]
-pub enum Checked {
-    // Every near target is the start of a record or the end of the show; the length of the image.
-    Lands(usize),
+// Why a show is refused.
+#[derive(Clone, Copy, Debug, PartialEq, Eq)]
+pub enum CheckError {
+    // The loader's.
+    Load(LoadError),
 
-    // 25: the first record whose target is neither, the target, and the record that it falls into.
+    // 25: the first record whose near target is neither a record's start nor the end, the target, and the record that it falls into.
     Inside(usize, u16, usize),
 
     // 25, where no record has a byte there.
     Outside(usize, u16),
+}
 
-    // The loader's.
-    Refused(LoadError),
+impl From<LoadError> for CheckError {
+    ghost from_gives = { λ error result. result ≡ C.Load error };
+
+    fn from(error: LoadError) -> CheckError {
+        CheckError::Load(error)
+    }
 }

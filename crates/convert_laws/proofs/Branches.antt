@@ -1,10 +1,10 @@
 -- Which records are branches, and that a branch's form does not look at its target.
 -- Assumes nothing.
+use Rattle.std.specs.Prelude.{None, Option, Some}
 use mathlib.Core.Path.{◌≡◌, refl, sym, ◌∙◌, ap}
 use mathlib.Core.Bool.{Bool, true, false}
 use mathlib.Core.List.{List, [], ◌∷◌}
 use Prim.Native.Nat.{ℕ}
-use native.Mathlib.Omega.{arith}
 use lib.IntN.{ℤ}
 use Rattle.mrc_compiler.specs.declared.encoder.InstructionData.{InstructionData}
 use Rattle.mrc_compiler.specs.declared.encoder.JumpKind.{JumpKind}
@@ -47,31 +47,31 @@ use Rattle.convert_laws.proofs.Chosen.{all, holds, choose-holds, choice-holds}
 abbrev far : Form → Bool
 far f = isnt (is_branch (in_slot f.first))
 
-is_none : (b : Branch) → isnt (is_branch b) ≡ true → b ≡ B.None
-is_none B.None h = refl
-is_none B.Short h = false-true h
-is_none B.Near h = false-true h
+is_none : (b : Option Branch) → isnt (is_branch b) ≡ true → b ≡ None
+is_none None h = refl
+is_none (Some B.Short) h = false-true h
+is_none (Some B.Near) h = false-true h
 
-none_near : (c : Choice) → holds far c ≡ true → in_form c ≡ B.None
+none_near : (c : Choice) → holds far c ≡ true → in_form c ≡ None
 none_near none h = refl
 none_near (straight f) h = is_none (in_slot f.first) h
 none_near (crossed f) h = refl
 
-choose-far : (fs : List Form) (s : OperandSize) (a : OperandData) (t : OperandSize) (b : OperandData) → all far fs ≡ true → in_form (choose false fs s a t b) ≡ B.None
+choose-far : (fs : List Form) (s : OperandSize) (a : OperandData) (t : OperandSize) (b : OperandData) → all far fs ≡ true → in_form (choose false fs s a t b) ≡ None
 choose-far fs s a t b h = none_near (choose false fs s a t b) (choose-holds far false fs s a t b h)
 
 -- ---- by group
-no_kind : (k : OperandKind) → by_kind k B.None B.None B.None B.None ≡ B.None
+no_kind : (k : OperandKind) → by_kind {A = Option Branch} k None None None None ≡ None
 no_kind K.Imm = refl
 no_kind K.Reg = refl
 no_kind K.Seg = refl
 no_kind K.Mem = refl
 
-far_block : (g : Group) (fs : List Form) (k : ℕ) (a b : OperandData) → all far fs ≡ true → in_form (choice g fs k a b) ≡ by_kind a.kind B.None B.None B.None B.None
+far_block : (g : Group) (fs : List Form) (k : ℕ) (a b : OperandData) → all far fs ≡ true → in_form (choice g fs k a b) ≡ by_kind {A = Option Branch} a.kind None None None None
 far_block g fs k a b h = none_near (choice g fs k a b) (choice-holds far g fs k a b h) ∙ sym (no_kind a.kind)
 
 -- the first form of a list, or what the rest gives
-first_or : (f : Form) (fs : List Form) (s : OperandSize) (a : OperandData) (t : OperandSize) (b : OperandData) (x y : Branch) → in_slot f.first ≡ x
+first_or : (f : Form) (fs : List Form) (s : OperandSize) (a : OperandData) (t : OperandSize) (b : OperandData) (x y : Option Branch) → in_slot f.first ≡ x
     → in_form (choose false fs s a t b) ≡ y → in_form (choose false (f ∷ fs) s a t b) ≡ pick (both (takes f.first s a) (takes f.second t b)) x y
 first_or f fs s a t b x y d e = go (both (takes f.first s a) (takes f.second t b))
   where
@@ -79,33 +79,33 @@ first_or f fs s a t b x y d e = go (both (takes f.first s a) (takes f.second t b
     go true = d
     go false = e
 
-call_kinds : (k : OperandKind) (j : JumpKind) → pick (both (by_kind k (by_jump j true false true false) false false false) true) B.Near B.None ≡ by_kind k (near_in G.Call j) B.None B.None B.None
-call_kinds K.Imm J.None = refl
-call_kinds K.Imm J.Far = refl
-call_kinds K.Imm J.Near = refl
-call_kinds K.Imm J.Short = refl
+call_kinds : (k : OperandKind) (j : Option JumpKind) → pick (both (by_kind k (by_jump j true false true false) false false false) true) (Some B.Near) None ≡ by_kind k (near_in G.Call j) None None None
+call_kinds K.Imm None = refl
+call_kinds K.Imm (Some J.Far) = refl
+call_kinds K.Imm (Some J.Near) = refl
+call_kinds K.Imm (Some J.Short) = refl
 call_kinds K.Reg j = refl
 call_kinds K.Seg j = refl
 call_kinds K.Mem j = refl
 
-jump_kinds : (k : OperandKind) (j : JumpKind)
-    → pick (both (by_kind k (by_jump j true false true false) false false false) true) B.Near
-    (pick (both (by_kind k (by_jump j false true false false) false false false) true) B.None
-    (pick (both (by_kind k (by_jump j true false false true) false false false) true) B.Short B.None))
-    ≡ by_kind k (near_in G.Jmp j) B.None B.None B.None
-jump_kinds K.Imm J.None = refl
-jump_kinds K.Imm J.Far = refl
-jump_kinds K.Imm J.Near = refl
-jump_kinds K.Imm J.Short = refl
+jump_kinds : (k : OperandKind) (j : Option JumpKind)
+    → pick (both (by_kind k (by_jump j true false true false) false false false) true) (Some B.Near)
+    (pick (both (by_kind k (by_jump j false true false false) false false false) true) None
+    (pick (both (by_kind k (by_jump j true false false true) false false false) true) (Some B.Short) None))
+    ≡ by_kind k (near_in G.Jmp j) None None None
+jump_kinds K.Imm None = refl
+jump_kinds K.Imm (Some J.Far) = refl
+jump_kinds K.Imm (Some J.Near) = refl
+jump_kinds K.Imm (Some J.Short) = refl
 jump_kinds K.Reg j = refl
 jump_kinds K.Seg j = refl
 jump_kinds K.Mem j = refl
 
-short_kinds : (k : OperandKind) (j : JumpKind) → pick (both (by_kind k (by_jump j true false false true) false false false) true) B.Short B.None ≡ by_kind k (near_in G.Jcc j) B.None B.None B.None
-short_kinds K.Imm J.None = refl
-short_kinds K.Imm J.Far = refl
-short_kinds K.Imm J.Near = refl
-short_kinds K.Imm J.Short = refl
+short_kinds : (k : OperandKind) (j : Option JumpKind) → pick (both (by_kind k (by_jump j true false false true) false false false) true) (Some B.Short) None ≡ by_kind k (near_in G.Jcc j) None None None
+short_kinds K.Imm None = refl
+short_kinds K.Imm (Some J.Far) = refl
+short_kinds K.Imm (Some J.Near) = refl
+short_kinds K.Imm (Some J.Short) = refl
 short_kinds K.Reg j = refl
 short_kinds K.Seg j = refl
 short_kinds K.Mem j = refl
@@ -126,18 +126,18 @@ in_block G.LesLds n op k a b = far_block G.LesLds (block G.LesLds n op) k a b re
 in_block G.Shift n op k a b = far_block G.Shift (block G.Shift n op) k a b refl
 in_block G.Call n op k a b =
     let through = form 0xFF (/ 2) op rm_near nil ∷ form 0xFF (/ 3) op mem_far nil ∷ [] in
-    first_or (form 0xE8 no op cw nil) through a.size a b.size b B.Near B.None refl (choose-far through a.size a b.size b refl)
+    first_or (form 0xE8 no op cw nil) through a.size a b.size b (Some B.Near) None refl (choose-far through a.size a b.size b refl)
     ∙ call_kinds a.kind a.jmp_kind
 in_block G.Jmp n op k a b =
     let through = form 0xFF (/ 4) op rm_near nil ∷ [] in
     let short = form 0xEB no op cb nil in
     let far = form 0xEA no op ptr nil in
-    first_or (form 0xE9 no op cw nil) (far ∷ short ∷ through) a.size a b.size b B.Near _ refl
-    (first_or far (short ∷ through) a.size a b.size b B.None _ refl
-    (first_or short through a.size a b.size b B.Short B.None refl (choose-far through a.size a b.size b refl)))
+    first_or (form 0xE9 no op cw nil) (far ∷ short ∷ through) a.size a b.size b (Some B.Near) _ refl
+    (first_or far (short ∷ through) a.size a b.size b None _ refl
+    (first_or short through a.size a b.size b (Some B.Short) None refl (choose-far through a.size a b.size b refl)))
     ∙ jump_kinds a.kind a.jmp_kind
-in_block G.Jcc n op k a b = first_or (form n no op cb nil) [] a.size a b.size b B.Short B.None refl refl ∙ short_kinds a.kind a.jmp_kind
-in_block G.Loopc n op k a b = first_or (form n no op cb nil) [] a.size a b.size b B.Short B.None refl refl ∙ short_kinds a.kind a.jmp_kind
+in_block G.Jcc n op k a b = first_or (form n no op cb nil) [] a.size a b.size b (Some B.Short) None refl refl ∙ short_kinds a.kind a.jmp_kind
+in_block G.Loopc n op k a b = first_or (form n no op cb nil) [] a.size a b.size b (Some B.Short) None refl refl ∙ short_kinds a.kind a.jmp_kind
 in_block G.NoOperands n op k a b = far_block G.NoOperands (block G.NoOperands n op) k a b refl
 in_block G.Prefixes n op k a b = far_block G.Prefixes (block G.Prefixes n op) k a b refl
 in_block G.Int n op k a b = far_block G.Int (block G.Int n op) k a b refl
@@ -156,7 +156,7 @@ branch_by_group insn =
     ∙ in_block (group_of op) (base_of op) op insn.num_opers (dst insn) (src insn)
 
 -- ---- its form does not look at the target
-not_none : {P : Type 0} (k : OperandKind) → is_branch (by_kind k B.None B.None B.None B.None) ≡ true → P
+not_none : {P : Type 0} (k : OperandKind) → is_branch (by_kind {A = Option Branch} k None None None None) ≡ true → P
 not_none K.Imm h = false-true h
 not_none K.Reg h = false-true h
 not_none K.Seg h = false-true h
@@ -199,12 +199,12 @@ same_choice insn z h =
     ap (λ fs. choice (group_of op) fs insn.num_opers (with_imm (dst insn) z) (src insn)) e ∙ s ∙ sym (ap (λ fs. choice (group_of op) fs insn.num_opers (dst insn) (src insn)) e)
 
 -- ---- it means a jump there
-by_kind_lem : (k : OperandKind) (j : JumpKind) (b : Branch) (x y z w : Instruction) → is_branch (by_kind k (by_jump j B.Near B.None B.Near b) B.None B.None B.None) ≡ true
+by_kind_lem : (k : OperandKind) (j : Option JumpKind) (b : Option Branch) (x y z w : Instruction) → is_branch (by_kind k (by_jump j (Some B.Near) None (Some B.Near) b) None None None) ≡ true
     → by_kind k (by_jump j x y x x) z z w ≡ x
-by_kind_lem K.Imm J.None b x y z w h = refl
-by_kind_lem K.Imm J.Far b x y z w h = false-true h
-by_kind_lem K.Imm J.Near b x y z w h = refl
-by_kind_lem K.Imm J.Short b x y z w h = refl
+by_kind_lem K.Imm None b x y z w h = refl
+by_kind_lem K.Imm (Some J.Far) b x y z w h = false-true h
+by_kind_lem K.Imm (Some J.Near) b x y z w h = refl
+by_kind_lem K.Imm (Some J.Short) b x y z w h = refl
 by_kind_lem K.Reg j b x y z w h = false-true h
 by_kind_lem K.Seg j b x y z w h = false-true h
 by_kind_lem K.Mem j b x y z w h = false-true h
@@ -224,8 +224,8 @@ branch_meant G.Ret k op a b z h = not_none a.kind h
 branch_meant G.Lea k op a b z h = not_none a.kind h
 branch_meant G.LesLds k op a b z h = not_none a.kind h
 branch_meant G.Shift k op a b z h = not_none a.kind h
-branch_meant G.Call k op a b z h = by_kind_lem a.kind a.jmp_kind B.None _ _ _ _ h
-branch_meant G.Jmp k op a b z h = by_kind_lem a.kind a.jmp_kind B.Short _ _ _ _ h
+branch_meant G.Call k op a b z h = by_kind_lem a.kind a.jmp_kind None _ _ _ _ h
+branch_meant G.Jmp k op a b z h = by_kind_lem a.kind a.jmp_kind (Some B.Short) _ _ _ _ h
 branch_meant G.Jcc k op a b z h = refl
 branch_meant G.Loopc k op a b z h = refl
 branch_meant G.NoOperands k op a b z h = not_none a.kind h

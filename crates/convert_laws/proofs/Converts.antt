@@ -1,9 +1,10 @@
 -- A file that is written loads at the same origin, its branches land where they landed, and its shifts do what they did (specs/Converts).
 -- Assumes nothing.
+use Rattle.std.specs.Prelude.{Ok, Err}
 use mathlib.Core.Path.{◌≡◌, refl, sym, ◌∙◌, ap, subst}
 use mathlib.Core.Bool.{Bool, true, false}
 use mathlib.Core.List.{List}
-use Prim.Native.Nat.{ℕ, zero, suc, ◌+◌, ◌*◌, ◌<◌, ◌≤◌}
+use Prim.Native.Nat.{ℕ, suc, ◌+◌, ◌<◌, ◌≤◌}
 use native.Mathlib.Omega.{arith}
 use lib.Dec.{leb, eqb}
 use lib.IntN.{pos}
@@ -16,7 +17,7 @@ use Rattle.mrc_compiler.specs.declared.encoder.OperandKind.TheVariants as K
 use Rattle.mrc_compiler.specs.declared.encoder.OperandSize.{OperandSize}
 use Rattle.mrc_compiler.specs.declared.encoder.OperandSize.TheVariants as S
 use Rattle.mrc_compiler.specs.declared.operations.Operation.{Operation}
-use Rattle.mrc_compiler.specs.Choose.{pick, by_kind}
+use Rattle.mrc_compiler.specs.Choose.{by_kind}
 use Rattle.mrc_compiler.specs.Builders.{is_specified}
 use Rattle.mrc_compiler.specs.Operations.{number_of}
 use Rattle.x86.specs.declared.Instruction.{Instruction}
@@ -29,19 +30,15 @@ use Rattle.encode_groups.specs.declared.Group.TheVariants as G
 use Rattle.encode_groups.specs.declared.Group.{Group}
 use Rattle.encode_groups.specs.Grouping.{group_of}
 use Rattle.encode_spec.specs.Records.{dst, src}
-use Rattle.encode_spec.specs.Operands.{if_imm, counted, count}
+use Rattle.encode_spec.specs.Operands.{counted, count}
 use Rattle.encode_spec.specs.Meaning.{meant, meaning}
 use Rattle.encode_spec.specs.Questions.{questions}
-use Rattle.encode_spec.specs.Answer.{all_yes, first_no, record_bytes, bytes, answer}
+use Rattle.encode_spec.specs.Answer.{first_no, record_bytes, bytes, answer}
 use Rattle.encode_spec.proofs.Accepted.{gives_bytes, every}
 use Rattle.encode_spec.proofs.Values.{false-true}
 use Rattle.show_file.specs.declared.Header.{Header}
-use Rattle.show_file.specs.declared.LoadError.{LoadError}
-use Rattle.show_file.specs.declared.LoadError.TheVariants as E
 use Rattle.show_file.specs.Show.{most_records, header, insn_at}
-use Rattle.show_load.specs.declared.Loaded.{Loaded}
-use Rattle.show_load.specs.declared.Loaded.TheVariants as L
-use Rattle.show_load.specs.Loading.{Walk, all, stopped, offset_behind, bytes_of, walk, bytes_in, is_all, first_over, too_short, measured, accepted, loaded, image_after}
+use Rattle.show_load.specs.Loading.{Walk, all, stopped, offset_behind, bytes_of, walk, bytes_in, is_all, measured, accepted, loaded, image_after}
 use Rattle.show_load.specs.Loading as Loading
 use Rattle.show_load.specs.Demand2.{part, Loaded2}
 use Rattle.show_load.proofs.Laws.{within_seven}
@@ -49,19 +46,17 @@ use Rattle.show_load.proofs.Demand2.{reads_at}
 use Rattle.shift_copies.specs.Shifting.{Shift, rol, ror, rcl, rcr, shl, shr, sar, operation_of, is_shift, Width, byte, word, size_of}
 use Rattle.shift_copies.proofs.Named.{named}
 use Rattle.shift_copies.proofs.Copies.{copies_same}
-use Rattle.convert_spec.specs.declared.Converted.TheVariants as C
 use Rattle.convert_spec.specs.declared.ConvertError.{ConvertError}
 use Rattle.convert_spec.specs.Counts.{has_count, times, with_imm, with_operands, with_count_one}
 use Rattle.convert_spec.specs.OldStarts.{old_offset, old_answer, first_copy}
 use Rattle.convert_spec.specs.Targets.{branch_of, is_branch, target_of, place_of}
-use Rattle.convert_spec.specs.Written.{new_imm, written}
+use Rattle.convert_spec.specs.Written.{new_imm}
 use Rattle.convert_spec.specs.Converting.{fitted, converted}
 use Rattle.convert_laws.specs.Converts.{origin_of, count_of, to, new_header, Lands, Shifts, Converts}
 use Rattle.convert_laws.specs.NewRecords.{with_first, new_insn}
-use Rattle.convert_laws.specs.Passed.{Show1, Convertible}
-use Rattle.convert_laws.proofs.Branches.{branch_meaning, branch_no_count, shift_group}
+use Rattle.convert_laws.proofs.Branches.{branch_meaning, shift_group}
 use Rattle.convert_laws.proofs.Firsts.{found}
-use Rattle.convert_laws.proofs.Written.{copies_next, copies_below, plain}
+use Rattle.convert_laws.proofs.Written.{plain}
 use Rattle.convert_laws.proofs.Ranges.{times_within, its_bytes}
 use Rattle.convert_laws.proofs.Walked.{copied, some_copy, copies_within, counted_shift, counted_new}
 use Rattle.convert_laws.proofs.Starts.{goes_there}
@@ -127,21 +122,21 @@ module _ (insn : InstructionData) (c : has_count insn ≡ true) where
       go S.Word h = (word, refl)
 
 -- ---- a written file is accepted
-no_image : {P : Type 0} {m : ℕ} {e : ConvertError} → C.Refused e ≡ C.File m → P
+no_image : {P : Type 0} {m : ℕ} {e : ConvertError} → Err e ≡ Ok m → P
 no_image q = let z : ◌≡◌ {A = ℕ} 0 1 = cc in absurd (omega arith)
 
-walked : (h : Header) (w : Walk) (n size m : ℕ) → fitted n size (measured h w) ≡ C.File m → is_all w ≡ true
+walked : (h : Header) (w : Walk) (n size m : ℕ) → fitted n size (measured h w) ≡ Ok m → is_all w ≡ true
 walked h (all bs) n size m q = refl
 walked h (stopped k e) n size m q = no_image q
 
-measured_all : (h : Header) (w : Walk) → is_all w ≡ true → measured h w ≡ L.Image h (length (bytes_in w))
+measured_all : (h : Header) (w : Walk) → is_all w ≡ true → measured h w ≡ Ok (h, length (bytes_in w))
 measured_all h (all bs) t = refl
 measured_all h (stopped k e) t = false-true t
 
 record Loading1 (file : List ℕ) : Type 0 where
   pub few : first_copy file (count_of file) ≤ 1000
   pub all_in : is_all (walk (to file) (origin_of file) (first_copy file (count_of file))) ≡ true
-  pub accepts : accepted most_records (to file) ≡ L.Image (new_header file) (length (bytes_in (walk (to file) (origin_of file) (first_copy file (count_of file)))))
+  pub accepts : accepted most_records (to file) ≡ Ok (new_header file, length (bytes_in (walk (to file) (origin_of file) (first_copy file (count_of file)))))
 
 loading : (file : List ℕ) (size m : ℕ) → Done file size m (header file) → Loading1 file
 loading file size m d = go (leb (first_copy file (count_of file)) 1000) refl
@@ -174,7 +169,7 @@ module _ (file : List ℕ) (size m : ℕ) (d : Done file size m (header file)) (
   accepts : Loading1 file
   accepts = loading file size m d
 
-  image_is : loaded W (length image) ≡ L.Image (new_header file) (starts total)
+  image_is : loaded W (length image) ≡ Ok (new_header file, starts total)
   image_is =
       let s = within_seven W (origin_of file) total in
       let f = accepts.few in
@@ -236,7 +231,7 @@ module _ (file : List ℕ) (size m : ℕ) (d : Done file size m (header file)) (
   all_of_it = record { loads = image_is; records = records_are; branches = branch_lands; shifts = shift_copies }
 
 -- a conversion that answers a length: the file that it writes, in any image of 7,000 bytes or more
-pub converts : (file : List ℕ) (size m : ℕ) → converted file size ≡ C.File m → (image : List ℕ) → 7000 ≤ length image → (starts : ℕ → ℕ) × Converts file image starts
+pub converts : (file : List ℕ) (size m : ℕ) → converted file size ≡ Ok m → (image : List ℕ) → 7000 ≤ length image → (starts : ℕ → ℕ) × Converts file image starts
 converts file size m q image room =
     let (h, d) = done file size m q in
     let d' : Done file size m (header file) = subst (Done file size m) (sym d.show.its_header) d in

@@ -1,26 +1,22 @@
 -- What a conversion that answers a file says of it: its records can be converted, and the written file is accepted.
 -- Assumes nothing.
-use mathlib.Core.Path.{◌≡◌, refl, sym, ◌∙◌, ap}
+use Rattle.std.specs.Prelude.{Err, Ok, Result}
+use mathlib.Core.Path.{◌≡◌, refl, sym}
 use mathlib.Core.Bool.{Bool, true, false}
 use mathlib.Core.List.{List}
-use Prim.Native.Nat.{ℕ, ◌<◌, ◌≤◌}
+use Prim.Native.Nat.{ℕ, ◌≤◌}
 use native.Mathlib.Omega.{arith}
-use lib.Dec.{ltb, leb}
+use lib.Dec.{ltb}
 use lib.ListN.{length}
 use borrow.Author.Tests.{ltb-true, ltb-false}
-use Rattle.mrc_compiler.specs.Choose.{pick, both, isnt}
+use Rattle.mrc_compiler.specs.Choose.{pick, isnt}
 use Rattle.encode_spec.specs.Answer.{Answer, bytes, refused}
 use Rattle.encode_spec.proofs.Values.{false-true}
 use Rattle.show_file.specs.declared.Header.{Header}
+use Rattle.show_file.specs.declared.LoadError.{LoadError}
 use Rattle.show_file.specs.declared.LoadError.TheVariants as E
-use Rattle.show_file.specs.declared.Opened.{Opened}
-use Rattle.show_file.specs.declared.Opened.TheVariants as O
 use Rattle.show_file.specs.Show.{most_records, insn_at, first_unknown}
-use Rattle.show_load.specs.declared.Loaded.{Loaded}
-use Rattle.show_load.specs.declared.Loaded.TheVariants as L
 use Rattle.show_load.specs.Loading.{accepted}
-use Rattle.convert_spec.specs.declared.Converted.{Converted}
-use Rattle.convert_spec.specs.declared.Converted.TheVariants as C
 use Rattle.convert_spec.specs.declared.ConvertError.{ConvertError}
 use Rattle.convert_spec.specs.declared.ConvertError.TheVariants as X
 use Rattle.convert_spec.specs.Counts.{count_taken}
@@ -57,18 +53,18 @@ pub record Done (file : List ℕ) (size m : ℕ) (h : Header) : Type 0 where
   pub show : Show1 file h
   pub known : ltb (first_unknown file h.count) h.count ≡ false
   pub convertible : Convertible file h.origin h.count
-  pub image : Loaded
+  pub image : Result (Header × ℕ) LoadError
   pub accepts : accepted most_records (written file h) ≡ image
-  pub fits : fitted (length (written file h)) size image ≡ C.File m
+  pub fits : fitted (length (written file h)) size image ≡ Ok m
 
-no_file : {P : Type 0} {e : ConvertError} {m : ℕ} → C.Refused e ≡ C.File m → P
+no_file : {P : Type 0} {e : ConvertError} {m : ℕ} → Err e ≡ Ok m → P
 no_file q = let z : ◌≡◌ {A = ℕ} 0 1 = cc in absurd (omega arith)
 
-no_refusal : {P : Type 0} (k : ℕ) (a : Answer) (c : Converted) (m : ℕ) → is_refused a ≡ true → or_refused k a c ≡ C.File m → P
+no_refusal : {P : Type 0} (k : ℕ) (a : Answer) (c : Result ℕ ConvertError) (m : ℕ) → is_refused a ≡ true → or_refused k a c ≡ Ok m → P
 no_refusal k (bytes bs) c m t q = false-true t
 no_refusal k (refused x) c m t q = no_file q
 
-module _ (file : List ℕ) (h : Header) (size m : ℕ) (o : shown file ≡ O.Show h) where
+module _ (file : List ℕ) (h : Header) (size m : ℕ) (o : shown file ≡ Ok h) where
   abbrev n : ℕ
   n = h.count
 
@@ -78,16 +74,16 @@ module _ (file : List ℕ) (h : Header) (size m : ℕ) (o : shown file ≡ O.Sho
   abbrev stray : ℕ
   stray = first_stray (old_offset file origin) (insn_at file) n
 
-  show_done : show_converted file h size ≡ C.File m → Done file size m h
+  show_done : show_converted file h size ≡ Ok m → Done file size m h
   unfolding show_converted
   show_done q =
       go (ltb (first_unknown file n) n) (ltb (first_miscounted file n) n) (ltb (first_refused file origin n) n) (ltb stray n) refl refl refl refl q
     where
       go : (a b c d : Bool) → ltb (first_unknown file n) n ≡ a → ltb (first_miscounted file n) n ≡ b → ltb (first_refused file origin n) n ≡ c → ltb stray n ≡ d
-          → pick a (C.Refused (X.Load (E.UnknownCode (first_unknown file n))))
-          (pick b (C.Refused (X.ShiftCountOutOfRange (first_miscounted file n)))
-          (pick c (or_refused (first_refused file origin n) (old_answer file origin (first_refused file origin n)) (pick d (C.Refused (X.NoRecordAtTarget stray)) (fitted (length (written file h)) size (accepted most_records (written file h)))))
-          (pick d (C.Refused (X.NoRecordAtTarget stray)) (fitted (length (written file h)) size (accepted most_records (written file h)))))) ≡ C.File m
+          → pick a (Err (X.Load (E.UnknownCode (first_unknown file n))))
+          (pick b (Err (X.ShiftCountOutOfRange (first_miscounted file n)))
+          (pick c (or_refused (first_refused file origin n) (old_answer file origin (first_refused file origin n)) (pick d (Err (X.NoRecordAtTarget stray)) (fitted (length (written file h)) size (accepted most_records (written file h)))))
+          (pick d (Err (X.NoRecordAtTarget stray)) (fitted (length (written file h)) size (accepted most_records (written file h)))))) ≡ Ok m
           → Done file size m h
       go true b c d w x y z q = no_file q
       go false true c d w x y z q = no_file q
@@ -103,9 +99,9 @@ module _ (file : List ℕ) (h : Header) (size m : ℕ) (o : shown file ≡ O.Sho
         fits = q;
       }
 
-pub done : (file : List ℕ) (size m : ℕ) → converted file size ≡ C.File m → (h : Header) × Done file size m h
+pub done : (file : List ℕ) (size m : ℕ) → converted file size ≡ Ok m → (h : Header) × Done file size m h
 done file size m q = go (shown file) refl q
   where
-    go : (o : Opened) → shown file ≡ o → converted_by file size o ≡ C.File m → (h : Header) × Done file size m h
-    go (O.Show h) e q = (h, show_done file h size m e q)
-    go (O.Refused x) e q = no_file q
+    go : (o : Result Header LoadError) → shown file ≡ o → converted_by file size o ≡ Ok m → (h : Header) × Done file size m h
+    go (Ok h) e q = (h, show_done file h size m e q)
+    go (Err x) e q = no_file q

@@ -1,25 +1,20 @@
 -- What the loader says of a written file: above 1,000 records 14, else it goes on to the records, whose codes are all known.
 -- Assumes nothing.
+use Rattle.std.specs.Prelude.{Some, Ok, Err}
 use mathlib.Core.Path.{◌≡◌, refl, sym, ◌∙◌, ap}
 use mathlib.Core.Bool.{Bool, true, false}
 use mathlib.Core.List.{List}
-use mathlib.Core.Logic.{⊎_elim}
-use Prim.Native.Nat.{ℕ, zero, suc, ◌+◌, ◌*◌, ◌-◌, ◌<◌, ◌≤◌}
-use native.Mathlib.Nat.{le_of_suc-le-suc}
+use Prim.Native.Nat.{ℕ, zero, suc, ◌+◌, ◌-◌, ◌<◌, ◌≤◌}
 use native.Mathlib.Omega.{arith}
-use lib.Dec.{ltb, leb, eqb}
+use lib.Dec.{ltb, eqb}
 use lib.ListN.{length}
 use borrow.Author.Tests.{ltb-true, ltb-false, le-leb, lt-leb, eq-eqb}
-use Rattle.mrc_compiler.specs.Choose.{pick, both, isnt}
+use Rattle.mrc_compiler.specs.Choose.{isnt}
 use Rattle.encode_spec.proofs.Values.{false-true}
 use Rattle.show_record.specs.Record.{codes_known}
-use Rattle.show_file.specs.declared.Counts.TheVariants as C
 use Rattle.show_file.specs.declared.Header.{Header}
 use Rattle.show_file.specs.declared.LoadError.TheVariants as E
-use Rattle.show_file.specs.declared.Opened.{Opened}
-use Rattle.show_file.specs.declared.Opened.TheVariants as O
-use Rattle.show_file.specs.Show.{header_length, most_records, versions, counts_in, has_mark, header, record_at, record_place, insn_at, is_count, counted, headed, opened, is_unknown, first_unknown}
-use Rattle.show_load.specs.declared.Loaded.TheVariants as L
+use Rattle.show_file.specs.Show.{header_length, most_records, versions, counts_in, record_at, record_place, insn_at, is_count, counted, headed, opened, is_unknown, first_unknown}
 use Rattle.show_load.specs.Loading.{walk, measured, show_accepted, accepted_by, accepted}
 use Rattle.convert_spec.specs.Counts.{times}
 use Rattle.convert_spec.specs.OldStarts.{first_copy}
@@ -60,7 +55,7 @@ module _ (file : List ℕ) (h : Header) (x : Show1 file h) where
   c = first_copy file h.count
 
   -- ---- the file itself
-  to_counts : opened most_records W ≡ counted most_records W (new_header file h x) (C.Between 0 1000)
+  to_counts : opened most_records W ≡ counted most_records W (new_header file h x) (Some (record { fewest = 0; most = 1000 }))
   unfolding opened headed
   to_counts =
       let l : header_length ≤ length W = omega (arith, its_length file h x) in
@@ -70,11 +65,11 @@ module _ (file : List ℕ) (h : Header) (x : Show1 file h) where
   length_is : eqb (length W) (record_place W c) ≡ true
   length_is = eq-eqb (length W) (record_place W c) (rw (its_each file h x) (its_length file h x))
 
-  pub opened_few : c ≤ 1000 → opened most_records W ≡ O.Show (new_header file h x)
+  pub opened_few : c ≤ 1000 → opened most_records W ≡ Ok (new_header file h x)
   unfolding is_count
   opened_few few = to_counts ∙ rw (le-leb 0 c (omega arith), le-leb c 1000 few, le-leb c most_records (omega arith), length_is)
 
-  opened_many : 1000 < c → opened most_records W ≡ O.Refused E.WrongLength
+  opened_many : 1000 < c → opened most_records W ≡ Err E.WrongLength
   unfolding is_count
   opened_many many = to_counts ∙ rw (le-leb 0 c (omega arith), lt-leb c 1000 many)
 
@@ -99,5 +94,5 @@ module _ (file : List ℕ) (h : Header) (x : Show1 file h) where
     unfolding show_accepted
     accepted_few few = ap (accepted_by W) (opened_few few) ∙ rw none_unknown
 
-    pub accepted_many : 1000 < c → accepted most_records W ≡ L.Refused E.WrongLength
+    pub accepted_many : 1000 < c → accepted most_records W ≡ Err E.WrongLength
     accepted_many many = ap (accepted_by W) (opened_many many)

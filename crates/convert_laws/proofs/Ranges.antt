@@ -1,14 +1,14 @@
 -- The new immediate of a branch is an i32: a short one goes near, and what is gained before a place is not much.
 -- Assumes nothing.
+use Rattle.std.specs.Prelude.{None, Option, Some}
 use mathlib.Core.Path.{◌≡◌, refl, sym, ◌∙◌, ap}
 use mathlib.Core.Bool.{Bool, true, false, cond, ◌&&◌}
-use mathlib.Core.List.{List, ◌++◌}
+use mathlib.Core.List.{List}
 use Prim.Native.Nat.{ℕ, zero, suc, ◌+◌, ◌*◌, ◌-◌, ◌<◌, ◌≤◌}
 use native.Mathlib.Nat.{mul-le-mul, mul-le-mul_right}
 use native.Mathlib.Omega.{arith}
 use lib.Dec.{ltb, leb}
 use lib.IntN.{ℤ, pos, negsuc, nat_abs, ◌+ℤ◌, ◌-ℤ◌}
-use lib.ListN.{length}
 use lib.Signed.{mag}
 use borrow.Author.Tests.{ltb-true, ltb-false, leb-true}
 use Rattle.mrc_compiler.specs.declared.encoder.InstructionData.{InstructionData}
@@ -17,22 +17,21 @@ use Rattle.mrc_compiler.specs.Choose.{pick}
 use Rattle.mrc_compiler.specs.Values.{within}
 use Rattle.base_values.specs.Distances.{distance_of}
 use Rattle.x86.specs.Forms.{Slot, rm, rm_near, mem, mem_far, reg, sreg, sreg_not_cs, acc, low3, bits34, bits34_not_cs, cl, dx, one, moffs, xlat, ib, iw, ib_sx, cb, cw, ptr, nil}
-use Rattle.encode_groups.specs.declared.Group.{Group}
 use Rattle.encode_spec.specs.Records.{dst}
 use Rattle.encode_spec.specs.Choice.{Choice, none, straight, crossed}
-use Rattle.encode_spec.specs.Limits.{Asked, of_slot, short_distance}
+use Rattle.encode_spec.specs.Limits.{short_distance}
 use Rattle.encode_spec.specs.Questions.{chosen, questions}
 use Rattle.encode_spec.specs.Answer.{all_yes, first_no, record_bytes, Answer, bytes, refused, answer}
-use Rattle.encode_spec.proofs.Accepted.{gives_bytes, ChosenAs, chosen_is, accepted_reads}
+use Rattle.encode_spec.proofs.Accepted.{gives_bytes, ChosenAs, chosen_is}
 use Rattle.encode_spec.proofs.Slots.{Given, yes}
 use Rattle.encode_spec.proofs.Outcomes.{Short, answer_short}
 use Rattle.encode_spec.proofs.Values.{false-true, under_65536}
 use Rattle.show_file.specs.Show.{insn_at}
-use Rattle.show_load.specs.Loading.{offset_behind, bytes_of}
+use Rattle.show_load.specs.Loading.{bytes_of}
 use Rattle.convert_spec.specs.declared.Branch.{Branch}
 use Rattle.convert_spec.specs.declared.Branch.TheVariants as B
 use Rattle.convert_spec.specs.Counts.{count_of, count_taken, times, with_count_one, old_bytes, gained}
-use Rattle.convert_spec.specs.OldStarts.{length_of, is_refused, old_start, old_offset, old_answer, gain}
+use Rattle.convert_spec.specs.OldStarts.{length_of, is_refused, old_offset, old_answer, gain}
 use Rattle.convert_spec.specs.Targets.{in_slot, in_form, branch_of, is_branch, place_of}
 use Rattle.convert_spec.specs.Written.{moved_by, new_imm}
 use Rattle.convert_laws.specs.Passed.{Counted, Convertible}
@@ -80,10 +79,10 @@ pub seven : (insn : InstructionData) (off : ℕ) → off < 65536 → length_of (
 seven insn off h = short_by (answer insn off) (answer_short insn off h)
 
 -- ---- the target of a short branch that is accepted
-never : {P : Type 0} → B.None ≡ B.Short → P
+never : {P : Type 0} → None ≡ Some B.Short → P
 never e = let z : ◌≡◌ {A = ℕ} 0 1 = cc in absurd (omega arith)
 
-near_not_short : {P : Type 0} → B.Near ≡ B.Short → P
+near_not_short : {P : Type 0} → Some B.Near ≡ Some B.Short → P
 near_not_short e = let z : ◌≡◌ {A = ℕ} 0 1 = cc in absurd (omega arith)
 
 minus_cond : (t : Bool) (n k : ℕ) → k < 65538 → ltb n (suc k) ≡ t → within (negsuc 127) (pos 127) (cond t (negsuc (suc k - suc n)) (pos (n - suc k))) ≡ true → n < 70000
@@ -95,7 +94,7 @@ in_reach (pos n) k h w = minus_cond (ltb n (suc k)) n k h refl w
 in_reach (negsuc n) k h w = let t = leb-true (suc (n + k)) 127 (and_true (leb (suc (n + k)) 127) true w).0 in omega arith
 
 -- a distance byte is asked about
-slot_reach : (s : Slot) (off : ℕ) (o : OperandData) → off < 65536 → in_slot s ≡ B.Short → Given s off o → mag o.imm < 70000
+slot_reach : (s : Slot) (off : ℕ) (o : OperandData) → off < 65536 → in_slot s ≡ Some B.Short → Given s off o → mag o.imm < 70000
 slot_reach (rm w) off o h e g = never e
 slot_reach rm_near off o h e g = never e
 slot_reach mem off o h e g = never e
@@ -123,12 +122,12 @@ slot_reach cw off o h e g = near_not_short e
 slot_reach ptr off o h e g = never e
 slot_reach nil off o h e g = never e
 
-pub short_imm : (insn : InstructionData) (off : ℕ) (bs : List ℕ) → off < 65536 → answer insn off ≡ bytes bs → branch_of insn ≡ B.Short → mag (dst insn).imm < 70000
+pub short_imm : (insn : InstructionData) (off : ℕ) (bs : List ℕ) → off < 65536 → answer insn off ≡ bytes bs → branch_of insn ≡ Some B.Short → mag (dst insn).imm < 70000
 unfolding answer branch_of
 short_imm insn off bs h e b =
     go (chosen insn) b (chosen_is insn off (gives_bytes (first_no (questions insn off)) (record_bytes insn off) bs e).0)
   where
-    go : (c : Choice) → in_form c ≡ B.Short → ChosenAs insn off c → mag (dst insn).imm < 70000
+    go : (c : Choice) → in_form c ≡ Some B.Short → ChosenAs insn off c → mag (dst insn).imm < 70000
     go none b k = never b
     go (straight f) b k = slot_reach f.first off (dst insn) h b k.first
     go (crossed f) b k = never b
@@ -168,18 +167,18 @@ module _ (file : List ℕ) (origin n : ℕ) (c : Convertible file origin n) (few
       let g = gain_below file origin n c.counts (place_of (old_offset file origin) n insn) p in
       omega arith
 
-  pub short_near : branch_of insn ≡ B.Short → mag (dst insn).imm < 70000
+  pub short_near : branch_of insn ≡ Some B.Short → mag (dst insn).imm < 70000
   short_near q = short_imm insn (old_offset file origin k) (bytes_of (old_answer file origin k)) (omega arith) (branch_taken (ap is_branch q)) q
 
   pub new_imm_fits : is_branch (branch_of insn) ≡ true → mag (new_imm file origin n insn) < 2147483648
   unfolding new_imm
   new_imm_fits b = go (branch_of insn) refl b
     where
-      go : (x : Branch) → branch_of insn ≡ x → is_branch x ≡ true → mag (moved_by x (dst insn).imm (gain file origin (place_of (old_offset file origin) n insn))) < 2147483648
-      go B.None q t = false-true t
-      go B.Short q t =
+      go : (x : Option Branch) → branch_of insn ≡ x → is_branch x ≡ true → mag (moved_by x (dst insn).imm (gain file origin (place_of (old_offset file origin) n insn))) < 2147483648
+      go None q t = false-true t
+      go (Some B.Short) q t =
           let m = short_near q in
           let l = gain_little (ap is_branch q) in
           let s = sum_mag (dst insn).imm (gain file origin (place_of (old_offset file origin) n insn)) in
           omega arith
-      go B.Near q t = let u = under_65536 ((dst insn).imm +ℤ pos (gain file origin (place_of (old_offset file origin) n insn))) in omega arith
+      go (Some B.Near) q t = let u = under_65536 ((dst insn).imm +ℤ pos (gain file origin (place_of (old_offset file origin) n insn))) in omega arith

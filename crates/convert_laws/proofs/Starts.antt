@@ -1,6 +1,7 @@
 -- Where the records of a written file that loads start: the first copy of a record at its old start and what is gained before it. So its
 -- branches go to the first copy of the record that they went to, or to the new end.
 -- Assumes nothing.
+use Rattle.std.specs.Prelude.{None, Option, Some}
 use mathlib.Core.Path.{◌≡◌, refl, sym, ◌∙◌, ap}
 use mathlib.Core.Bool.{Bool, true, false, cond}
 use mathlib.Core.List.{List}
@@ -43,10 +44,10 @@ pub plus : (z : ℤ) (g : ℕ) → mod_z 65536 (z +ℤ pos g) ≡ (mod_z 65536 z
 plus (pos n) g = omega arith
 plus (negsuc n) g = plus_cond (ltb g (suc n)) n g refl
 
-moved_is : (b : Branch) (z : ℤ) (g : ℕ) → is_branch b ≡ true → mod_z 65536 (moved_by b z g) ≡ (mod_z 65536 z + g) % 65536
-moved_is B.None z g h = false-true h
-moved_is B.Short z g h = plus z g
-moved_is B.Near z g h = let e = plus z g in omega arith
+moved_is : (b : Option Branch) (z : ℤ) (g : ℕ) → is_branch b ≡ true → mod_z 65536 (moved_by b z g) ≡ (mod_z 65536 z + g) % 65536
+moved_is None z g h = false-true h
+moved_is (Some B.Short) z g h = plus z g
+moved_is (Some B.Near) z g h = let e = plus z g in omega arith
 
 module _ (file : List ℕ) (h : Header) (x : Show1 file h) (c : Convertible file h.origin h.count) (loads : is_all (walk (written file h) h.origin (first_copy file h.count)) ≡ true) where
   abbrev n : ℕ

@@ -1,6 +1,6 @@
 -- What is proved of a file that is written: it loads at the same origin, its branches go where they went, and its shifts do what they did.
 -- Definitions only.
-use Rattle.std.specs.Prelude.{ℕ, ◌+◌, ◌<◌, ◌≤◌, ◌≡◌, true, List, length}
+use Rattle.std.specs.Prelude.{ℕ, ◌+◌, ◌<◌, ◌≤◌, ◌≡◌, true, List, length, Ok}
 use Rattle.mrc_compiler.specs.declared.encoder.OperandSize.TheVariants as S
 use Rattle.x86.specs.declared.Instruction.{Instruction}
 use Rattle.x86.specs.declared.Operand.{Operand}
@@ -10,7 +10,6 @@ use Rattle.x86.specs.Listing.{ReadsAs}
 use Rattle.encode_spec.specs.Records.{dst}
 use Rattle.show_file.specs.declared.Header.{Header}
 use Rattle.show_file.specs.Show.{header, insn_at}
-use Rattle.show_load.specs.declared.Loaded.TheVariants as L
 use Rattle.show_load.specs.Demand2.{part, Loaded2}
 use Rattle.show_load.specs.Loading.{offset_behind, loaded, image_after}
 use Rattle.shift_copies.specs.Shifting.{Shift, operation_of, Width, size_of, Held, Fits, Same}
@@ -62,7 +61,7 @@ module _ (file image : List ℕ) (starts : ℕ → ℕ) where
     pub same : (s : Held) → Fits width s → Same op width (times (insn_at file k)) s
 
   pub record Converts : Type 0 where
-    pub loads : loaded (to file) (length image) ≡ L.Image (new_header file) (starts (first_copy file (count_of file)))
+    pub loads : loaded (to file) (length image) ≡ Ok (new_header file, starts (first_copy file (count_of file)))
     pub records : Loaded2 (to file) (new_header file) (starts (first_copy file (count_of file))) starts image (image_after (to file) image)
     pub branches : (k : ℕ) → k < count_of file → is_branch (branch_of (insn_at file k)) ≡ true → Lands k
     pub shifts : (k : ℕ) → k < count_of file → has_count (insn_at file k) ≡ true → Shifts k

@@ -1,5 +1,6 @@
 -- Small shows and what converting them answers: the examples of document 02's No. 12 and of its questions, worked out by hand.
 -- Assumes nothing.
+use Rattle.std.specs.Prelude.{Err, Ok, Result}
 use mathlib.Core.Path.{◌≡◌, refl}
 use mathlib.Core.Bool.{true}
 use mathlib.Core.List.{List, [], ◌∷◌, ◌++◌}
@@ -24,8 +25,7 @@ use Rattle.show_file.specs.declared.LoadError.TheVariants as E
 use Rattle.show_file.specs.Show.{has_mark, u16_at, record_bytes, is_count, headed, opened, is_unknown}
 use Rattle.show_load.specs.Loading.{walk, show_accepted}
 use Rattle.shift_copies.specs.Shifting.{is_shift}
-use Rattle.convert_spec.specs.declared.Converted.{Converted}
-use Rattle.convert_spec.specs.declared.Converted.TheVariants as C
+use Rattle.convert_spec.specs.declared.ConvertError.{ConvertError}
 use Rattle.convert_spec.specs.declared.ConvertError.TheVariants as X
 use Rattle.convert_spec.specs.Refusals as Refusals
 use Rattle.convert_spec.specs.Counts.{has_count, count_of, with_count_one, old_bytes}
@@ -99,7 +99,7 @@ abbrev pub show : ℕ → List (List ℕ) → List ℕ
 show = of 1
 
 -- into room enough
-abbrev answers : List ℕ → Converted
+abbrev answers : List ℕ → Result ℕ ConvertError
 answers file = converted file 65536
 
 -- the slice behind the written file keeps its byte
@@ -164,8 +164,8 @@ writes = record {
 }
 
 -- ---- what is refused
-abbrev loader : LoadError → Converted
-loader e = C.Refused (X.Load e)
+abbrev loader : LoadError → Result ℕ ConvertError
+loader e = Err (X.Load e)
 
 record Refuses : Type 0 where
   -- document 02: three copies move the branch to 1, and its target to 65,539; the record is the written file's
@@ -173,18 +173,18 @@ record Refuses : Type 0 where
   -- document 02: the last HLT stood at 65,535 and moves to 65,536
   short_is_5 : answers (show 65529 (shl 2 ∷ rec 59 1 (target 3 65535) (imm 0) ∷ hlt ∷ hlt ∷ [])) ≡ loader (E.Record 2 (N.ImmediateOutOfRange (at 0) (pos 65536) (pos 0) (pos 65535)))
   -- 24: 0 and 32, below 0, and with an operand that is not counted or states no size, which is 2 where the count is taken
-  count_0 : answers (show 100 (shl 0 ∷ [])) ≡ C.Refused (X.ShiftCountOutOfRange 0)
-  count_31 : answers (show 100 (shl 31 ∷ [])) ≡ C.File 1745
-  count_32 : answers (show 100 (hlt ∷ shl 32 ∷ shl 33 ∷ [])) ≡ C.Refused (X.ShiftCountOutOfRange 1)
-  count_below_0 : answers (show 100 (hlt ∷ hlt ∷ shl 0xFFFFFFFF ∷ [])) ≡ C.Refused (X.ShiftCountOutOfRange 2)
-  one_operand : answers (show 100 (rec 35 1 (ax 0) (imm 0) ∷ [])) ≡ C.Refused (X.ShiftCountOutOfRange 0)
-  unstated_by_40 : answers (show 100 (rec 35 2 unstated (imm 40) ∷ [])) ≡ C.Refused (X.ShiftCountOutOfRange 0)
+  count_0 : answers (show 100 (shl 0 ∷ [])) ≡ Err (X.ShiftCountOutOfRange 0)
+  count_31 : answers (show 100 (shl 31 ∷ [])) ≡ Ok 1745
+  count_32 : answers (show 100 (hlt ∷ shl 32 ∷ shl 33 ∷ [])) ≡ Err (X.ShiftCountOutOfRange 1)
+  count_below_0 : answers (show 100 (hlt ∷ hlt ∷ shl 0xFFFFFFFF ∷ [])) ≡ Err (X.ShiftCountOutOfRange 2)
+  one_operand : answers (show 100 (rec 35 1 (ax 0) (imm 0) ∷ [])) ≡ Err (X.ShiftCountOutOfRange 0)
+  unstated_by_40 : answers (show 100 (rec 35 2 unstated (imm 40) ∷ [])) ≡ Err (X.ShiftCountOutOfRange 0)
   unstated_by_2 : answers (show 100 (rec 35 2 unstated (imm 2) ∷ [])) ≡ loader (E.Record 0 (N.OperandSizeNotSpecified (at 0)))
   -- 25: into an old shift, behind its last copy's start, behind the end, before the origin
-  into_the_shift : answers (show 100 (shl 3 ∷ je 101 ∷ [])) ≡ C.Refused (X.NoRecordAtTarget 1)
-  into_its_count : answers (show 100 (shl 3 ∷ je 102 ∷ [])) ≡ C.Refused (X.NoRecordAtTarget 1)
-  behind_the_end : answers (show 100 (hlt ∷ je 104 ∷ hlt ∷ je 107 ∷ [])) ≡ C.Refused (X.NoRecordAtTarget 3)
-  before_the_origin : answers (show 100 (je 99 ∷ je 98 ∷ [])) ≡ C.Refused (X.NoRecordAtTarget 0)
+  into_the_shift : answers (show 100 (shl 3 ∷ je 101 ∷ [])) ≡ Err (X.NoRecordAtTarget 1)
+  into_its_count : answers (show 100 (shl 3 ∷ je 102 ∷ [])) ≡ Err (X.NoRecordAtTarget 1)
+  behind_the_end : answers (show 100 (hlt ∷ je 104 ∷ hlt ∷ je 107 ∷ [])) ≡ Err (X.NoRecordAtTarget 3)
+  before_the_origin : answers (show 100 (je 99 ∷ je 98 ∷ [])) ≡ Err (X.NoRecordAtTarget 0)
   -- the file itself: mark, nine bytes, version, count and length
   no_mark : answers [] ≡ loader E.NoMark
   mark_alone : answers (0x46 ∷ 0x53 ∷ 0x51 ∷ []) ≡ loader E.WrongLength
@@ -225,14 +225,14 @@ record Order : Type 0 where
   length_before_15 : answers (show 100 (unknown ∷ []) ++ (0 ∷ [])) ≡ loader E.WrongLength
   15-before-24 : answers (show 100 (shl 32 ∷ unknown ∷ [])) ≡ loader (E.UnknownCode 1)
   -- a count before an earlier record's own refusal, and that before an earlier target
-  24-before-own : answers (show 100 (int1 ∷ shl 32 ∷ [])) ≡ C.Refused (X.ShiftCountOutOfRange 1)
+  24-before-own : answers (show 100 (int1 ∷ shl 32 ∷ [])) ≡ Err (X.ShiftCountOutOfRange 1)
   own_before_25 : answers (show 100 (je 101 ∷ int1 ∷ int1 ∷ [])) ≡ loader (E.Record 1 (N.NotSupported (at 9)))
   -- a target before the written file's refusal, which is 6 with record 3
-  25-before-written : answers (show 65531 (shl 3 ∷ je 65536 ∷ je 1 ∷ [])) ≡ C.Refused (X.NoRecordAtTarget 2)
+  25-before-written : answers (show 65531 (shl 3 ∷ je 65536 ∷ je 1 ∷ [])) ≡ Err (X.NoRecordAtTarget 2)
   -- the slice last
   written_before_9 : converted (show 65531 (shl 3 ∷ je 65536 ∷ [])) 0 ≡ loader (E.Record 3 (N.RelativeJumpOutOfRange (at 0) S.Byte true (pos 65536)))
-  9-last : converted (show 100 (shl 3 ∷ [])) 176 ≡ C.Refused X.SliceTooShort
-  just_fits : converted (show 100 (shl 3 ∷ [])) 177 ≡ C.File 177
+  9-last : converted (show 100 (shl 3 ∷ [])) 176 ≡ Err X.SliceTooShort
+  just_fits : converted (show 100 (shl 3 ∷ [])) 177 ≡ Ok 177
   -- a refusal leaves the slice
   slice_kept : slice_after (show 100 (shl 3 ∷ [])) (1 ∷ 2 ∷ []) ≡ 1 ∷ 2 ∷ []
 

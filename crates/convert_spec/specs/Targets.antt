@@ -1,7 +1,7 @@
 -- Where branches go, among places whose offsets are given: a place is a record's number, or the count for the end. The check of targets asks
 -- with old starts here; with the starts of the image it asks about a show as it is.
 -- Definitions only.
-use Rattle.std.specs.Prelude.{ℕ, suc, Bool, true, false, eqb, ltb}
+use Rattle.std.specs.Prelude.{ℕ, suc, Bool, true, false, eqb, ltb, None, Option, Some}
 use Rattle.mrc_compiler.specs.declared.encoder.InstructionData.{InstructionData}
 use Rattle.mrc_compiler.specs.Choose.{both}
 use Rattle.mrc_compiler.specs.Values.{mod_z}
@@ -14,44 +14,44 @@ use Rattle.convert_spec.specs.declared.Branch.{Branch}
 use Rattle.convert_spec.specs.declared.Branch.TheVariants as B
 
 -- ---- branches: the forms with a near target
-abbrev pub in_slot : Slot → Branch
-in_slot (rm w) = B.None
-in_slot rm_near = B.None
-in_slot mem = B.None
-in_slot mem_far = B.None
-in_slot (reg w) = B.None
-in_slot sreg = B.None
-in_slot sreg_not_cs = B.None
-in_slot (acc w) = B.None
-in_slot (low3 w) = B.None
-in_slot bits34 = B.None
-in_slot bits34_not_cs = B.None
-in_slot cl = B.None
-in_slot dx = B.None
-in_slot one = B.None
-in_slot (moffs w) = B.None
-in_slot xlat = B.None
-in_slot ib = B.None
-in_slot iw = B.None
-in_slot ib_sx = B.None
-in_slot cb = B.Short  -- Jcc, E0 to E3, EB
-in_slot cw = B.Near  -- E8, E9
-in_slot ptr = B.None
-in_slot nil = B.None
+abbrev pub in_slot : Slot → Option Branch
+in_slot (rm w) = None
+in_slot rm_near = None
+in_slot mem = None
+in_slot mem_far = None
+in_slot (reg w) = None
+in_slot sreg = None
+in_slot sreg_not_cs = None
+in_slot (acc w) = None
+in_slot (low3 w) = None
+in_slot bits34 = None
+in_slot bits34_not_cs = None
+in_slot cl = None
+in_slot dx = None
+in_slot one = None
+in_slot (moffs w) = None
+in_slot xlat = None
+in_slot ib = None
+in_slot iw = None
+in_slot ib_sx = None
+in_slot cb = Some B.Short  -- Jcc, E0 to E3, EB
+in_slot cw = Some B.Near  -- E8, E9
+in_slot ptr = None
+in_slot nil = None
 
-abbrev pub in_form : Choice → Branch
-in_form none = B.None
+abbrev pub in_form : Choice → Option Branch
+in_form none = None
 in_form (straight f) = in_slot f.first
-in_form (crossed f) = B.None
+in_form (crossed f) = None
 
 -- of a record that has a form
-unfoldable pub branch_of : InstructionData → Branch
+unfoldable pub branch_of : InstructionData → Option Branch
 branch_of insn = in_form (chosen insn)
 
-abbrev pub is_branch : Branch → Bool
-is_branch B.None = false
-is_branch B.Short = true
-is_branch B.Near = true
+abbrev pub is_branch : Option Branch → Bool
+is_branch None = false
+is_branch (Some B.Short) = true
+is_branch (Some B.Near) = true
 
 -- ---- targets
 -- the first of n records and the end that stands at an offset; n + 1 where none does

@@ -1,6 +1,6 @@
 -- The file that a conversion writes (document 02, No. 12).
 -- Definitions only.
-use Rattle.std.specs.Prelude.{ℕ, zero, suc, ◌+◌, ◌/◌, ◌%◌, List, [], ◌∷◌, ◌++◌, ℤ, pos, ◌+ℤ◌, take, drop}
+use Rattle.std.specs.Prelude.{ℕ, zero, suc, ◌+◌, ◌/◌, ◌%◌, List, [], ◌∷◌, ◌++◌, ℤ, pos, ◌+ℤ◌, take, drop, None, Option, Some}
 use Rattle.mrc_compiler.specs.declared.encoder.InstructionData.{InstructionData}
 use Rattle.mrc_compiler.specs.Choose.{pick}
 use Rattle.mrc_compiler.specs.Values.{mod_z}
@@ -17,10 +17,10 @@ use Rattle.convert_spec.specs.Targets.{branch_of, is_branch, place_of}
 
 -- ---- immediates
 -- a target moved by so many bytes: that of E8 and E9 wraps at 65,536, the others do not
-abbrev pub moved_by : Branch → ℤ → ℕ → ℤ
-moved_by B.None z g = z
-moved_by B.Short z g = z +ℤ pos g
-moved_by B.Near z g = pos (mod_z 65536 (z +ℤ pos g))
+abbrev pub moved_by : Option Branch → ℤ → ℕ → ℤ
+moved_by None z g = z
+moved_by (Some B.Short) z g = z +ℤ pos g
+moved_by (Some B.Near) z g = pos (mod_z 65536 (z +ℤ pos g))
 
 -- the immediate of a branch: moved by what is gained before its target
 unfoldable pub new_imm : List ℕ → ℕ → ℕ → InstructionData → ℤ

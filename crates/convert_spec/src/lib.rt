@@ -2,15 +2,14 @@
 #![tactic(auto)]
 
 ghost use Rattle.std.specs.Prelude.{◌≡◌};
+ghost use Rattle.convert_spec.specs.declared.ConvertError.TheVariants as X;
 ghost use Rattle.convert_spec.specs.Refusals.{number_of};
 
 use show_file::LoadError;
 
-// What a record's form holds of its near target.
-#[derive(Clone, Copy)]
+// How a record's form holds its near target.
+#[derive(Clone, Copy, Debug, PartialEq, Eq)]
 pub enum Branch {
-    None,
-
     // A distance byte: Jcc, E0 to E3, EB.
     Short,
 
@@ -18,7 +17,7 @@ pub enum Branch {
     Near,
 }
 
-#[derive(Clone, Copy)]
+#[derive(Clone, Copy, Debug, PartialEq, Eq)]
 pub enum ConvertError {
     // The loader's, of the file or of the written one, and the encoder's, of a record at its old start.
     Load(LoadError),
@@ -47,9 +46,10 @@ impl ConvertError {
     }
 }
 
-#[derive(Clone, Copy)]
-pub enum Converted {
-    // The length of the written file.
-    File(usize),
-    Refused(ConvertError),
+impl From<LoadError> for ConvertError {
+    ghost from_gives = { λ error result. result ≡ X.Load error };
+
+    fn from(error: LoadError) -> ConvertError {
+        ConvertError::Load(error)
+    }
 }

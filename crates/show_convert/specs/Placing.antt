@@ -1,10 +1,9 @@
 -- What a conversion leaves in the lent slice, by its answer. Nobody has to believe it: the proof of `convert` ties it to convert_spec's definition.
 -- Definitions only.
-use Rattle.std.specs.Prelude.{ℕ, ◌+◌, ◌≡◌, false, List, ◌++◌, ltb, drop}
+use Rattle.std.specs.Prelude.{ℕ, ◌+◌, ◌≡◌, false, List, ◌++◌, ltb, drop, Err, Ok, Result}
 use Rattle.show_file.specs.declared.Header.{Header}
 use Rattle.show_file.specs.Show.{insn_at, first_unknown}
-use Rattle.convert_spec.specs.declared.Converted.{Converted}
-use Rattle.convert_spec.specs.declared.Converted.TheVariants as C
+use Rattle.convert_spec.specs.declared.ConvertError.{ConvertError}
 use Rattle.convert_spec.specs.OldStarts.{old_offset, gain}
 use Rattle.convert_spec.specs.Targets.{first_stray}
 use Rattle.convert_spec.specs.Converting.{first_miscounted, first_refused}
@@ -12,9 +11,9 @@ use Rattle.convert_laws.specs.Passed.{Show1, Table}
 use Rattle.convert_passes.specs.Passes.{Room}
 
 -- the file `to` at the front, or what it was
-abbrev pub placed_as : List ℕ → List ℕ → Converted → List ℕ
-placed_as to out (C.File m) = to ++ drop m out
-placed_as to out (C.Refused e) = out
+abbrev pub placed_as : List ℕ → List ℕ → Result ℕ ConvertError → List ℕ
+placed_as to out (Ok m) = to ++ drop m out
+placed_as to out (Err e) = out
 
 -- the first branch to no place
 abbrev pub stray_of : List ℕ → Header → ℕ

@@ -4,15 +4,16 @@ use mir.Val.{SFits}
 use mir.ValLaws.{to_z-of_z}
 use Rattle.convert_spec.specs.Targets.{is_branch}
 use borrow.Author.Rules.{rules}
+use Rattle.convert_passes.proofs.Laws.{branch_some}
 use Rattle.convert_passes.proofs.new_insn.Goals as goal
 
 pub new_imm-requires : goal.new_imm-requires
-new_imm-requires c = let p = c.requires in (p.0, p.1, (sym (ap is_branch c.branch_of.ensures) ∙ (sym c.is_branch.ensures ∙ c.if-is_branch.true)), p.2)
+new_imm-requires c = let p = c.requires in (p.0, p.1, (sym (ap is_branch c.branch_of.ensures) ∙ (sym (branch_some c.branch_of.result) ∙ (sym c.is_some.ensures ∙ c.if-is_some.true))), p.2)
 
-pub returns-then-is_branch : goal.returns-then-is_branch
-returns-then-is_branch c =
+pub returns-then-is_some : goal.returns-then-is_some
+returns-then-is_some c =
     let f : SFits w32 c.new_imm.result = search rules in
-    rw (sym (ap is_branch c.branch_of.ensures) ∙ (sym c.is_branch.ensures ∙ c.if-is_branch.true)) (rw (to_z-of_z w32 c.new_imm.result f, c.new_imm.ensures) at c.with_first.ensures)
+    rw (sym (ap is_branch c.branch_of.ensures) ∙ (sym (branch_some c.branch_of.result) ∙ (sym c.is_some.ensures ∙ c.if-is_some.true))) (rw (to_z-of_z w32 c.new_imm.result f, c.new_imm.ensures) at c.with_first.ensures)
 
-pub returns-else-is_branch : goal.returns-else-is_branch
-returns-else-is_branch c = rw (sym (ap is_branch c.branch_of.ensures) ∙ (sym c.is_branch.ensures ∙ c.if-is_branch.false)) c.by_one.ensures
+pub returns-else-is_some : goal.returns-else-is_some
+returns-else-is_some c = rw (sym (ap is_branch c.branch_of.ensures) ∙ (sym (branch_some c.branch_of.result) ∙ (sym c.is_some.ensures ∙ c.if-is_some.false))) c.by_one.ensures

@@ -4,7 +4,4 @@ use Rattle.convert_spec.specs.OldStarts.{first_copy}
 use Rattle.convert_passes.proofs.total.Given as goal
 
 abbrev pub invariant-loop-k : goal.invariant-loop-k
-invariant-loop-k l = (l.k ≤ l.n) × (l.sum ≡ first_copy l.file l.k) × (l.sum ≤ 31 * l.k)
-
-abbrev pub decreases-loop-k : goal.decreases-loop-k
-decreases-loop-k l = l.n - l.k
+invariant-loop-k l = (l.sum ≡ first_copy l.file l.k) × (l.sum ≤ 31 * l.k)

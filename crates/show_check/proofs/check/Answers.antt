@@ -1,30 +1,30 @@
 use Rattle.show_file.proofs.Opening.{opened_exact}
+use Rattle.show_file.specs.Show.{first_unknown}
 use Rattle.show_load.specs.Loading.{show_accepted}
-use Rattle.std.proofs.Common.{sym, ◌∙◌, le-ltb, lt-ltb}
+use Rattle.show_check.proofs.Laws.{handed_on}
+use Rattle.std.proofs.Common.{◌≤◌, refl, sym, ◌∙◌, arith, le-ltb, lt-ltb}
 use Rattle.show_check.proofs.check.Goals as goal
 
-pub first_unknown-unknown-requires : goal.first_unknown-unknown-requires
-first_unknown-unknown-requires c =
-    let e = opened_exact _ c.args.file.now _ (sym c.open-show.ensures ∙ c.in-Show.is) in
+pub returns-in_err-header : goal.returns-in_err-header
+returns-in_err-header c = handed_on _ _ c.from_residual.ensures.1 ∙ rw (sym c.open.ensures ∙ c.in_err-header.was) refl
+
+pub first_unknown-requires : goal.first_unknown-requires
+first_unknown-requires c =
+    let e = opened_exact _ c.args.file.now _ (sym c.open.ensures ∙ c.in_ok-header.was) in
     (e.its_length, e.its_count)
 
-pub returns-then-unknown-n : goal.returns-then-unknown-n
+pub returns-in-Some : goal.returns-in-Some
 unfolding show_accepted
-returns-then-unknown-n c =
-    let o = sym c.open-show.ensures ∙ c.in-Show.is in
-    let u = c.first_unknown-unknown.ensures in
-    rw (o, rw u at (lt-ltb _ _ c.if-unknown-n.true), ← u)
+returns-in-Some c = rw (sym c.open.ensures ∙ c.in_ok-header.was, ← c.in-Some.ensures.first, lt-ltb _ _ c.in-Some.ensures.below)
 
 pub check_records-requires : goal.check_records-requires
 check_records-requires c =
-    let e = opened_exact _ c.args.file.now _ (sym c.open-show.ensures ∙ c.in-Show.is) in
+    let e = opened_exact _ c.args.file.now _ (sym c.open.ensures ∙ c.in_ok-header.was) in
     (e.its_length, e.its_count)
 
-pub returns-in-Refused : goal.returns-in-Refused
-returns-in-Refused c = rw (sym c.open-show.ensures ∙ c.in-Refused.is)
-
-pub returns-else-unknown-n : goal.returns-else-unknown-n
+pub returns : goal.returns
 unfolding show_accepted
-returns-else-unknown-n c =
-    let o = sym c.open-show.ensures ∙ c.in-Show.is in
-    rw (o, rw c.first_unknown-unknown.ensures at (le-ltb _ _ c.if-unknown-n.false)) c.check_records.ensures
+returns c =
+    let n = c.in_ok-header.header.count in
+    let l : n ≤ first_unknown c.args.file.now n = omega (arith, c.in_default.ensures.first) in
+    rw (sym c.open.ensures ∙ c.in_ok-header.was, le-ltb _ _ l) c.check_records.ensures

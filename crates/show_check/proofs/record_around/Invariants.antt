@@ -1,11 +1,8 @@
-use Rattle.std.proofs.Common.{◌≡◌, ◌-◌, ◌≤◌}
+use Rattle.std.proofs.Common.{◌≡◌, ◌-◌}
 use Rattle.show_file.specs.Show.{first_from}
 use Rattle.convert_passes.specs.Passes.{place}
 use Rattle.check_spec.specs.Checking.{is_inside, record_around}
 use Rattle.show_check.proofs.record_around.Given as goal
 
 abbrev pub invariant-loop-k : goal.invariant-loop-k
-invariant-loop-k l = (l.k ≤ l.n) × (record_around (place l.starts) l.n l.target ≡ first_from (is_inside (place l.starts) l.target) (l.n - l.k) l.k)
-
-abbrev pub decreases-loop-k : goal.decreases-loop-k
-decreases-loop-k l = l.n - l.k
+invariant-loop-k l = record_around (place l.starts) l.n l.target ≡ first_from (is_inside (place l.starts) l.target) (l.n - l.k) l.k

@@ -13,16 +13,6 @@ use Rattle.show_convert.proofs.Writing.{up_to_more, begun, begun_length, ended}
 use borrow.Author.Rules.{rules}
 use Rattle.show_convert.proofs.write_all.Goals as goal
 
-pub slice_bounds-head-count : goal.slice_bounds-head-count
-slice_bounds-head-count c =
-    let l = c.requires.0.show.its_length in
-    search rules
-
-pub slice_bounds-head-start : goal.slice_bounds-head-start
-slice_bounds-head-start c =
-    let l = c.requires.0.show.its_length in
-    search rules
-
 pub slice_bounds-head-end : goal.slice_bounds-head-end
 slice_bounds-head-end c =
     let l = c.requires.0.show.its_length in
@@ -57,7 +47,7 @@ loop-k-init c =
     let b = c in
     let f = c.args.file.now in
     let h = c.args.header in
-    (omega arith, begun f h c.requires.0.show c.args.out.now _ _ c.args.c c.requires.1 c.requires.3 refl c.put.ensures, refl, rw (begun_length f h c.requires.0.show c.args.out.now _ _ c.args.c c.requires.1 c.requires.3 refl c.put.ensures) c.requires.3)
+    (begun f h c.requires.0.show c.args.out.now _ _ c.args.c c.requires.1 c.requires.3 refl c.put.ensures, refl, rw (begun_length f h c.requires.0.show c.args.out.now _ _ c.args.c c.requires.1 c.requires.3 refl c.put.ensures) c.requires.3)
 
 pub slice_bounds-part-count : goal.slice_bounds-part-count
 slice_bounds-part-count c =
@@ -65,10 +55,10 @@ slice_bounds-part-count c =
     let f = c.args.file.now in
     let h = c.args.header in
     let o = c.loop-k in
-    let r = o.invariant.3 in
-    let e = o.invariant.1.same in
-    let a = o.invariant.2 in
-    let m = copies_below f o.k h.count o.invariant.0 in
+    let r = o.invariant.2 in
+    let e = o.invariant.0.same in
+    let a = o.invariant.1 in
+    let m = copies_below f o.k h.count o.auto.k-end in
     let z = c.requires.1 in
     let y = c.requires.2 in
     omega arith
@@ -79,10 +69,10 @@ slice_bounds-part-start c =
     let f = c.args.file.now in
     let h = c.args.header in
     let o = c.loop-k in
-    let r = o.invariant.3 in
-    let e = o.invariant.1.same in
-    let a = o.invariant.2 in
-    let m = copies_below f o.k h.count o.invariant.0 in
+    let r = o.invariant.2 in
+    let e = o.invariant.0.same in
+    let a = o.invariant.1 in
+    let m = copies_below f o.k h.count o.auto.k-end in
     let z = c.requires.1 in
     let y = c.requires.2 in
     omega arith
@@ -95,9 +85,9 @@ write_record-t-requires c =
     let o = c.loop-k in
     let n = copies_next f o.k in
     let m = copies_below f (o.k + 1) h.count (omega (arith, c.loop-k-test.true)) in
-    let r = o.invariant.3 in
-    let e = o.invariant.1.same in
-    let a = o.invariant.2 in
+    let r = o.invariant.2 in
+    let e = o.invariant.0.same in
+    let a = o.invariant.1 in
     let z = c.requires.1 in
     let y = c.requires.2 in
     let l = lent_length o.out o.at in
@@ -121,9 +111,9 @@ overflow_add-at c =
     let o = c.loop-k in
     let n = copies_next f o.k in
     let m = copies_below f (o.k + 1) h.count (omega (arith, c.loop-k-test.true)) in
-    let r = o.invariant.3 in
-    let e = o.invariant.1.same in
-    let a = o.invariant.2 in
+    let r = o.invariant.2 in
+    let e = o.invariant.0.same in
+    let a = o.invariant.1 in
     let z = c.requires.1 in
     let y = c.requires.2 in
     let t = c.write_record-t.ensures.value in
@@ -139,14 +129,14 @@ loop-k-preserved c =
     let l = c.loop-k-test.true in
     let n = copies_next f o.k in
     let m = copies_below f (o.k + 1) h.count (omega (arith, l)) in
-    let r = o.invariant.3 in
-    let e = o.invariant.1.same in
-    let a = o.invariant.2 in
+    let r = o.invariant.2 in
+    let e = o.invariant.0.same in
+    let a = o.invariant.1 in
     let z = c.requires.1 in
     let y = c.requires.2 in
     let w = c.write_record-t.ensures in
     let t = c.write_record-t.ensures.value in
-    (omega arith, up_to_more f h c.requires.0.show o.k l _ o.out _ o.at o.invariant.1 o.invariant.2 (omega arith) c.write_record-t.ensures.out_after, omega arith, r)
+    (up_to_more f h c.requires.0.show o.k l _ o.out _ o.at o.invariant.0 o.invariant.1 (omega arith) c.write_record-t.ensures.out_after, omega arith, r)
 
 pub returns : goal.returns
 returns c =
@@ -154,4 +144,4 @@ returns c =
     let f = c.args.file.now in
     let h = c.args.header in
     let o = c.loop-k in
-    ended f h c.requires.0.show c.args.out.now _ _ c.args.c c.requires.1 c.requires.3 refl c.put.ensures o.out o.k (omega (arith, o.invariant.0, c.loop-k-test.false)) o.invariant.1
+    ended f h c.requires.0.show c.args.out.now _ _ c.args.c c.requires.1 c.requires.3 refl c.put.ensures o.out o.k (omega (arith, o.auto.k-end, c.loop-k-test.false)) o.invariant.0

@@ -7,7 +7,4 @@ use Rattle.show_convert.proofs.Writing.{up_to}
 use Rattle.show_convert.proofs.write_all.Given as goal
 
 abbrev pub invariant-loop-k : goal.invariant-loop-k
-invariant-loop-k l = (l.k ≤ l.header.count) × Front (up_to l.file l.header l.k) l.initial.out l.out × (l.at ≡ 9 + 56 * first_copy l.file l.k) × (9 + 56 * l.c ≤ length l.initial.out)
-
-abbrev pub decreases-loop-k : goal.decreases-loop-k
-decreases-loop-k l = l.header.count - l.k
+invariant-loop-k l = Front (up_to l.file l.header l.k) l.initial.out l.out × (l.at ≡ 9 + 56 * first_copy l.file l.k) × (9 + 56 * l.c ≤ length l.initial.out)
