@@ -1,5 +1,6 @@
 -- The image of a list of cues that compiles reads, instruction by instruction, as four a cue and HLT.
 -- Assumes nothing.
+use Rattle.std.specs.Prelude.{Err, Ok, Result, ℕ}
 use mathlib.Core.Path.{◌≡◌, refl, sym, ap, subst}
 use mathlib.Core.Bool.{Bool, true, false}
 use mathlib.Core.List.{List, [], ◌∷◌, ◌++◌, append_assoc}
@@ -18,14 +19,13 @@ use Rattle.encode_spec.specs.Meaning.{meaning}
 use Rattle.encode_spec.specs.Answer.{bytes, answer}
 use Rattle.encode_spec.proofs.Accepted.{accepted_reads}
 use Rattle.cue_compile.specs.declared.Cue.{Cue}
+use Rattle.cue_compile.specs.declared.CueError.{CueError}
 use Rattle.cue_compile.specs.declared.CueError.TheVariants as E
-use Rattle.cue_compile.specs.declared.Compiled.{Compiled}
-use Rattle.cue_compile.specs.declared.Compiled.TheVariants as R
 use Rattle.cue_compile.specs.Cues.{cues_in, is_cue_list, some_without}
 use Rattle.cue_compile.specs.Program.{move_delay, loop_to, move_mask, output, halt, program, assembled, image_of}
 use Rattle.cue_compile.specs.Compiling.{compiled, placed, image_after}
 use Rattle.cue_compile.specs.Read.{ReadAs}
-use Rattle.cue_compile.proofs.Bytes.{Sound, Sounds, none, more, delay_is, loop_is, mask_is, output_is, halt_is, next_is, all_sound}
+use Rattle.cue_compile.proofs.Bytes.{Sounds, none, more, delay_is, loop_is, mask_is, output_is, halt_is, next_is, all_sound}
 use Rattle.cue_compile.proofs.Laws.{four_each, list_whole}
 
 -- ---- one record, by the encoder's promise and that what stands behind is not looked at
@@ -56,26 +56,26 @@ module _ (s image : List ℕ) (b : Bytes s) where
   few : is_cue_list s ≡ true → 9 * length (cues_in s) + 1 ≤ 65536
   few t = let w = list_whole s t in let f = four_each s in omega arith
 
-  is_list : (n size : ℕ) → compiled s size ≡ R.Length n → is_cue_list s ≡ true
+  is_list : (n size : ℕ) → compiled s size ≡ Ok n → is_cue_list s ≡ true
   unfolding compiled
-  is_list n size = go (is_cue_list s) (pick (some_without (cues_in s)) (R.Refused E.NoDelay) (pick (leb (length (image_of (cues_in s))) size) (R.Length (length (image_of (cues_in s)))) (R.Refused E.ImageTooShort)))
+  is_list n size = go (is_cue_list s) (pick (some_without (cues_in s)) (Err E.NoDelay) (pick (leb (length (image_of (cues_in s))) size) (Ok (length (image_of (cues_in s)))) (Err E.ImageTooShort)))
     where
-      go : (l : Bool) (c : Compiled) → pick l c (R.Refused E.WrongLength) ≡ R.Length n → l ≡ true
+      go : (l : Bool) (c : Result ℕ CueError) → pick l c (Err E.WrongLength) ≡ Ok n → l ≡ true
       go true c q = refl
       go false c q = let z : ◌≡◌ {A = ℕ} 0 1 = cc in absurd (omega arith)
 
-  pub image_reads : (n : ℕ) → compiled s (length image) ≡ R.Length n → ReadAs 0 (program (cues_in s)) (image_after s image)
+  pub image_reads : (n : ℕ) → compiled s (length image) ≡ Ok n → ReadAs 0 (program (cues_in s)) (image_after s image)
   image_reads n q =
       let h = few (is_list n (length image) q) in
-      subst (ReadAs 0 (program (cues_in s))) (sym (ap (λ (c : Compiled). placed s image c) q)) (program_reads (cues_in s) (all_sound s b) 0 (omega arith) (drop n image))
+      subst (ReadAs 0 (program (cues_in s))) (sym (ap (λ (c : Result ℕ CueError). placed s image c) q)) (program_reads (cues_in s) (all_sound s b) 0 (omega arith) (drop n image))
 
 -- ---- a program fits where a length is answered
-pub compiled_fits : (s : List ℕ) (size n : ℕ) → compiled s size ≡ R.Length n → n ≤ size
+pub compiled_fits : (s : List ℕ) (size n : ℕ) → compiled s size ≡ Ok n → n ≤ size
 unfolding compiled
 compiled_fits s size n = go (is_cue_list s) (some_without (cues_in s)) (leb (length (image_of (cues_in s))) size) refl
   where
     go : (l w f : Bool) → leb (length (image_of (cues_in s))) size ≡ f
-        → pick l (pick w (R.Refused E.NoDelay) (pick f (R.Length (length (image_of (cues_in s)))) (R.Refused E.ImageTooShort))) (R.Refused E.WrongLength) ≡ R.Length n → n ≤ size
+        → pick l (pick w (Err E.NoDelay) (pick f (Ok (length (image_of (cues_in s)))) (Err E.ImageTooShort))) (Err E.WrongLength) ≡ Ok n → n ≤ size
     go true false true h q = let e : length (image_of (cues_in s)) ≡ n = cc in let l = leb-true (length (image_of (cues_in s))) size h in omega arith
     go true false false h q = let z : ◌≡◌ {A = ℕ} 0 1 = cc in absurd (omega arith)
     go true true f h q = let z : ◌≡◌ {A = ℕ} 0 1 = cc in absurd (omega arith)

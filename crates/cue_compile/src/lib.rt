@@ -1,26 +1,26 @@
 // Compiles a list of cues to the image of a field module (REFERENCE 14).
 #![tactic(auto)]
 
-ghost use Rattle.std.specs.Prelude.{◌≡◌, true, ◌++◌, ◌+◌, ◌*◌, ◌%◌, ◌<◌, ◌≤◌, pos, length, take, drop};
+ghost use Rattle.std.specs.Prelude.{◌≡◌, true, ◌++◌, ◌+◌, ◌%◌, ◌<◌, ◌≤◌, pos, length, take, drop};
 ghost use Rattle.mrc_compiler.specs.Builders.{immediate_operand};
 ghost use Rattle.encode_spec.specs.Answer.{answer};
-ghost use Rattle.cue_compile.specs.Cues.{cue, cue_at, cues_in, is_cue_list, some_without};
+ghost use Rattle.cue_compile.specs.Cues.{cue_at, cues_in, is_cue_list, some_without};
 ghost use Rattle.cue_compile.specs.Program.{no_span, move_delay, loop_to, move_mask, output, halt, of_cue, given, assembled, image_of};
 ghost use Rattle.cue_compile.specs.Compiling.{number_of, compiled, image_after};
 
 use mrc_compiler::ast::{ByteRegister, Span, WordRegister};
-use mrc_compiler::encoder::{Encoded, InstructionData, OperandData, OperandSize};
+use mrc_compiler::encoder::{InstructionData, OperandData, OperandSize};
 use mrc_compiler::operations::Operation;
 
 // Switch a port to a mask after a delay.
-#[derive(Clone, Copy)]
+#[derive(Clone, Copy, Debug, PartialEq, Eq)]
 pub struct Cue {
     pub delay: u16,
     pub port: u8,
     pub mask: u8,
 }
 
-#[derive(Clone, Copy)]
+#[derive(Clone, Copy, Debug, PartialEq, Eq)]
 pub enum CueError {
     // 19: no multiple of four bytes, or more than 200 cues.
     WrongLength,
@@ -30,12 +30,6 @@ pub enum CueError {
 
     // 9.
     ImageTooShort,
-}
-
-#[derive(Clone, Copy)]
-pub enum Compiled {
-    Length(usize),
-    Refused(CueError),
 }
 
 impl CueError {
@@ -123,35 +117,32 @@ fn place(insn: InstructionData, at: usize, image: &mut [u8]) -> usize
     let part = &mut image[at..];
     let written = encoder::encode(insn, offset, part);
     match written {
-        Encoded::Length(n) => at + n,
-        Encoded::Refused(_) => at,
+        Ok(n) => at + n,
+        Err(_) => at,
     }
 }
 
 // The four instructions of a cue.
-fn place_cue(delay: u16, port: u8, mask: u8, at: usize, image: &mut [u8]) -> usize
+fn place_cue(cue: Cue, at: usize, image: &mut [u8]) -> usize
     requires { (at + 9 < 65536) × (at + 9 ≤ length image.old) }
     ensures value { result ≡ at + 9 }
-    ensures image_after { image.new ≡ take at image.old ++ (assembled at (of_cue (cue delay port mask)) ++ drop (at + 9) image.old) }
+    ensures image_after { image.new ≡ take at image.old ++ (assembled at (of_cue cue) ++ drop (at + 9) image.old) }
 {
-    let a = place(move_delay(delay), at, image);
+    let a = place(move_delay(cue.delay), at, image);
     let b = place(loop_to(a as u16), a, image);
-    let d = place(move_mask(mask), b, image);
-    place(output_to(port), d, image)
+    let d = place(move_mask(cue.mask), b, image);
+    place(output_to(cue.port), d, image)
 }
 
-// The cue that begins at a place.
-fn cue_at(cues: &[u8], at: usize) -> Cue
-    requires { at + 4 ≤ length cues.now }
-    ensures { result ≡ cue_at cues.now at }
+// The cue that four bytes hold.
+fn cue_of(bytes: &[u8]) -> Cue
+    requires { length bytes.now ≡ 4 }
+    ensures { result ≡ cue_at bytes.now 0 }
 {
-    let low = cues[at];
-    let high = cues[at + 1];
-    let delay = low as u16 + 256 * high as u16;
     Cue {
-        delay,
-        port: cues[at + 2],
-        mask: cues[at + 3],
+        delay: u16::from_le_bytes([bytes[0], bytes[1]]),
+        port: bytes[2],
+        mask: bytes[3],
     }
 }
 
@@ -160,13 +151,10 @@ fn some_without(cues: &[u8]) -> bool
     requires { length cues.now % 4 ≡ 0 }
     ensures { result ≡ some_without (cues_in cues.now) }
 {
-    let mut k = 0;
-    while k < cues.len() {
-        let c = cue_at(cues, k);
-        if c.delay == 0 {
+    for bytes in cues.chunks_exact(CUE_LENGTH) {
+        if cue_of(bytes).delay == 0 {
             return true;
         }
-        k += CUE_LENGTH;
     }
     false
 }
@@ -176,35 +164,32 @@ fn place_all(cues: &[u8], image: &mut [u8])
     requires { (is_cue_list cues.now ≡ true) × (length (image_of (cues_in cues.now)) ≤ length image.old) }
     ensures { image.new ≡ image_of (cues_in cues.now) ++ drop (length (image_of (cues_in cues.now))) image.old }
 {
-    let mut k = 0;
     let mut at = 0;
-    while k < cues.len() {
-        let c = cue_at(cues, k);
-        at = place_cue(c.delay, c.port, c.mask, at, image);
-        k += CUE_LENGTH;
+    for bytes in cues.chunks_exact(CUE_LENGTH) {
+        at = place_cue(cue_of(bytes), at, image);
     }
     place(halts(), at, image);
 }
 
 // Compiles cues to the front of the image: the length of the program, or the refusal, which leaves the image as it was.
-pub fn compile(cues: &[u8], image: &mut [u8]) -> Compiled
+pub fn compile(cues: &[u8], image: &mut [u8]) -> Result<usize, CueError>
     ensures value { result ≡ compiled cues.now (length image.old) }
     ensures image_after { image.new ≡ image_after cues.now image.old }
 {
     let size = cues.len();
     if size % CUE_LENGTH != 0 {
-        return Compiled::Refused(CueError::WrongLength);
+        return Err(CueError::WrongLength);
     }
     if CUE_LENGTH * MOST_CUES < size {
-        return Compiled::Refused(CueError::WrongLength);
+        return Err(CueError::WrongLength);
     }
     if some_without(cues) {
-        return Compiled::Refused(CueError::NoDelay);
+        return Err(CueError::NoDelay);
     }
     let n = CUE_CODE * (size / CUE_LENGTH) + HALT_CODE;
     if image.len() < n {
-        return Compiled::Refused(CueError::ImageTooShort);
+        return Err(CueError::ImageTooShort);
     }
     place_all(cues, image);
-    Compiled::Length(n)
+    Ok(n)
 }

@@ -1,5 +1,6 @@
 -- What a designer may rely on: a compiled list of cues halts on the last step of its budget, with the cues' ports and masks in the log.
 -- Assumes nothing.
+use Rattle.std.specs.Prelude.{Some, Ok, Err}
 use mathlib.Core.Path.{◌≡◌, refl, sym, ap, ◌∙◌}
 use mathlib.Core.Bool.{Bool, true, false}
 use mathlib.Core.List.{List, [], ◌∷◌, ◌++◌, append-nil, append_assoc}
@@ -14,8 +15,7 @@ use Rattle.x86.specs.Listing.{Bytes}
 use Rattle.cue_compile.specs.declared.Cue.{Cue}
 use Rattle.cue_compile.specs.declared.CueError.{CueError}
 use Rattle.cue_compile.specs.declared.CueError.TheVariants as CE
-use Rattle.cue_compile.specs.declared.Compiled.TheVariants as R
-use Rattle.cue_compile.specs.Cues.{cues_in, is_cue_list, some_without}
+use Rattle.cue_compile.specs.Cues.{cues_in, some_without}
 use Rattle.cue_compile.specs.Program.{move_delay, loop_to, move_mask, output, halt, program, assembled, image_of}
 use Rattle.cue_compile.specs.Compiling.{compiled, image_after}
 use Rattle.cue_compile.proofs.Bytes.{Sound, Sounds, none, more, cue_bytes, delay_is, loop_is, mask_is, output_is, halt_is, cue_is, next_is, length_is, all_sound}
@@ -23,7 +23,7 @@ use Rattle.cue_compile.proofs.Laws.{four_each}
 use Rattle.x86.specs.Reading.{is_repeat}
 use Rattle.desk_step.specs.declared.Action.TheVariants as A
 use Rattle.desk_step.specs.declared.Effect.TheVariants as E
-use Rattle.desk_step.specs.Step.{machine, start, shown, performed, step_of, with_byte}
+use Rattle.desk_step.specs.Step.{machine, shown, performed, step_of, with_byte}
 use Rattle.desk_run.specs.Running.{halted, ran, in_reach, ending}
 use Rattle.desk_cues.specs.Promise.{delays, budget_of, pairs_of, room_of, Relied}
 use Rattle.desk_cues.proofs.Steps.{delay_does, loop_does, mask_does, output_does, halt_does, behind, fetched, goes, outputs, halts, loops}
@@ -63,15 +63,15 @@ module _ (image : List ℕ) (room : ℕ) (c : Cue) (s : Sound c) (k : ℕ) (is :
   unfolding performed
   delay_step =
       rw (← is)
-      (fetched image (move_delay c.delay) at _ _ (A.MoveWord 1 c.delay) (omega arith) refl (delay_is c.delay at s.delay_fits) (delay_does c.delay s.delay_fits) at_delay r)
+      (fetched image (move_delay c.delay) at _ _ (Some (A.MoveWord 1 c.delay)) (omega arith) refl (delay_is c.delay at s.delay_fits) (delay_does c.delay s.delay_fits) at_delay r)
 
-  loop_step : (r : List ℕ) → step_of image (machine r (at + 3)) ≡ performed (A.Loop (at + 3)) (at + 3 + 2) (machine r (at + 3))
-  loop_step r = fetched image (loop_to (at + 3)) (at + 3) _ _ (A.Loop (at + 3)) (omega arith) refl (loop_is (at + 3)) (loop_does (at + 3) (omega arith)) at_loop r
+  loop_step : (r : List ℕ) → step_of image (machine r (at + 3)) ≡ performed (Some (A.Loop (at + 3))) (at + 3 + 2) (machine r (at + 3))
+  loop_step r = fetched image (loop_to (at + 3)) (at + 3) _ _ (Some (A.Loop (at + 3))) (omega arith) refl (loop_is (at + 3)) (loop_does (at + 3) (omega arith)) at_loop r
 
   mask_step : step_of image (machine (set r 1 0) (at + 3 + 2)) ≡ shown E.Goes after (at + 3 + 2 + 2)
   unfolding performed
   mask_step =
-      fetched image (move_mask c.mask) (at + 3 + 2) _ _ (A.MoveByte 0 c.mask) (omega arith) refl (mask_is c.mask (at + 3 + 2) s.mask_fits) (mask_does c.mask s.mask_fits) at_mask (set r 1 0)
+      fetched image (move_mask c.mask) (at + 3 + 2) _ _ (Some (A.MoveByte 0 c.mask)) (omega arith) refl (mask_is c.mask (at + 3 + 2) s.mask_fits) (mask_does c.mask s.mask_fits) at_mask (set r 1 0)
 
   al_is : get_or after 0 0 % 256 ≡ c.mask
   al_is =
@@ -82,7 +82,7 @@ module _ (image : List ℕ) (room : ℕ) (c : Cue) (s : Sound c) (k : ℕ) (is :
   output_step : step_of image (machine after (at + 3 + 2 + 2)) ≡ shown (E.Outputs c.port c.mask) after (at + 9)
   unfolding performed
   output_step =
-      fetched image (output c.port) (at + 3 + 2 + 2) _ _ (A.Output c.port) (omega arith) refl (output_is c.port (at + 3 + 2 + 2) s.port_fits) (output_does c.port s.port_fits) at_output after
+      fetched image (output c.port) (at + 3 + 2 + 2) _ _ (Some (A.Output c.port)) (omega arith) refl (output_is c.port (at + 3 + 2 + 2) s.port_fits) (output_does c.port s.port_fits) at_output after
       ∙ rw (al_is, end_is) refl
 
   -- delay + 3 steps
@@ -121,7 +121,7 @@ module _ (image : List ℕ) (room : ℕ) where
       let q : 0 + 1 + b ≡ suc b = omega arith in
       let f : n + (0 + 1) ≡ suc n = omega arith in
       rw (q, f, append-nil log)
-      (halts image room (machine r at) (machine r (at + 1)) (fetched image halt at (0xF4 ∷ []) t A.Halt (omega arith) refl (halt_is at) halt_does i r) b n log)
+      (halts image room (machine r at) (machine r (at + 1)) (fetched image halt at (0xF4 ∷ []) t (Some A.Halt) (omega arith) refl (halt_is at) halt_does i r) b n log)
   cues_run (c ∷ cs) (more s ss) z at h t e r eight b n log l =
       let y = without c cs z in
       let (k, is) = below c.delay (eqb-false c.delay 0 y.0) in
@@ -150,15 +150,15 @@ record Accepted (s : List ℕ) (n : ℕ) : Type 0 where
   delayed : some_without (cues_in s) ≡ false
   long : n ≡ length (image_of (cues_in s))
 
-shut : {e : CueError} {n : ℕ} → R.Refused e ≡ R.Length n → ⊥
+shut : {e : CueError} {n : ℕ} → Err e ≡ Ok n → ⊥
 shut q = let z : ◌≡◌ {A = ℕ} 0 1 = cc in omega arith
 
-accepted : (s : List ℕ) (size n : ℕ) → compiled s size ≡ R.Length n → Accepted s n
+accepted : (s : List ℕ) (size n : ℕ) → compiled s size ≡ Ok n → Accepted s n
 unfolding compiled
 accepted s size n q = go (eqb (length s % 4) 0) (leb (length s) 800) (some_without (cues_in s)) (leb (length (image_of (cues_in s))) size) refl refl q
   where
     go : (a b c d : Bool) → leb (length s) 800 ≡ b → some_without (cues_in s) ≡ c
-        → pick (both a b) (pick c (R.Refused CE.NoDelay) (pick d (R.Length (length (image_of (cues_in s)))) (R.Refused CE.ImageTooShort))) (R.Refused CE.WrongLength) ≡ R.Length n
+        → pick (both a b) (pick c (Err CE.NoDelay) (pick d (Ok (length (image_of (cues_in s)))) (Err CE.ImageTooShort))) (Err CE.WrongLength) ≡ Ok n
         → Accepted s n
     go true true false true x y q = record { few = leb-true (length s) 800 x; delayed = y; long = cc }
     go true true false false x y q = absurd (shut q)
@@ -166,7 +166,7 @@ accepted s size n q = go (eqb (length s % 4) 0) (leb (length s) 800) (some_witho
     go true false c d x y q = absurd (shut q)
     go false b c d x y q = absurd (shut q)
 
-module _ (s : List ℕ) (bs : Bytes s) (image : List ℕ) (n : ℕ) (q : compiled s (length image) ≡ R.Length n) where
+module _ (s : List ℕ) (bs : Bytes s) (image : List ℕ) (n : ℕ) (q : compiled s (length image) ≡ Ok n) where
   abbrev cs : List Cue
   cs = cues_in s
 

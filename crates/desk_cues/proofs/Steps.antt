@@ -1,17 +1,16 @@
 -- One step of a run, and the step at a record that the encoder accepted: by the encoder's promise its bytes read as the record's instruction.
 -- Assumes nothing.
+use Rattle.std.specs.Prelude.{Ok, Option, Some}
 use mathlib.Core.Path.{◌≡◌, refl, sym, ap, ◌∙◌}
 use mathlib.Core.Bool.{false}
 use mathlib.Core.List.{List, [], ◌∷◌, ◌++◌}
-use Prim.Native.Nat.{ℕ, zero, suc, ◌+◌, ◌*◌, ◌/◌, ◌%◌, ◌<◌, ◌≤◌}
+use Prim.Native.Nat.{ℕ, zero, suc, ◌+◌, ◌%◌, ◌<◌, ◌≤◌}
 use native.Mathlib.Omega.{arith}
-use lib.Dec.{leb}
 use lib.ListN.{length, drop, set, get_or}
 use lib.Seq.{drop-drop, drop-append_seam, set-set, get_or-set_same}
 use borrow.Author.Tests.{le-leb, ne_eqb}
 use Rattle.mrc_compiler.specs.declared.encoder.InstructionData.{InstructionData}
 use Rattle.mrc_compiler.specs.Operations.{number_of}
-use Rattle.x86.specs.declared.Read.TheVariants.{Whole}
 use Rattle.x86.specs.Instructions.{canonical}
 use Rattle.x86.specs.Reading.{reads}
 use Rattle.x86.proofs.Extend.{is_repeat_alone, whole_stays}
@@ -26,26 +25,26 @@ use Rattle.desk_step.specs.declared.Action.{Action}
 use Rattle.desk_step.specs.declared.Action.TheVariants as A
 use Rattle.desk_step.specs.declared.Effect.TheVariants as E
 use Rattle.desk_step.specs.Step.{machine, shown, action_of, performed, step_of, less1}
-use Rattle.desk_run.specs.Running.{Ending, halted, ran}
+use Rattle.desk_run.specs.Running.{halted, ran}
 
 -- ---- what the records have the machine do
-pub delay_does : (d : ℕ) → d < 65536 → action_of (meaning (move_delay d)) ≡ A.MoveWord 1 d
+pub delay_does : (d : ℕ) → d < 65536 → action_of (meaning (move_delay d)) ≡ Some (A.MoveWord 1 d)
 unfolding action_of meant counted canonical grouped_of number_of
 delay_does d h = let e : d % 65536 ≡ d = omega arith in rw e
 
-pub loop_does : (at : ℕ) → at < 65536 → action_of (meaning (loop_to at)) ≡ A.Loop at
+pub loop_does : (at : ℕ) → at < 65536 → action_of (meaning (loop_to at)) ≡ Some (A.Loop at)
 unfolding action_of meant counted canonical grouped_of number_of
 loop_does at h = let e : at % 65536 ≡ at = omega arith in rw e
 
-pub mask_does : (m : ℕ) → m < 256 → action_of (meaning (move_mask m)) ≡ A.MoveByte 0 m
+pub mask_does : (m : ℕ) → m < 256 → action_of (meaning (move_mask m)) ≡ Some (A.MoveByte 0 m)
 unfolding action_of meant counted canonical grouped_of number_of
 mask_does m h = let e : m % 256 ≡ m = omega arith in rw (e, e)
 
-pub output_does : (p : ℕ) → p < 256 → action_of (meaning (output p)) ≡ A.Output p
+pub output_does : (p : ℕ) → p < 256 → action_of (meaning (output p)) ≡ Some (A.Output p)
 unfolding action_of meant counted canonical grouped_of number_of
 output_does p h = let e : p % 256 ≡ p = omega arith in rw (e, e)
 
-pub halt_does : action_of (meaning halt) ≡ A.Halt
+pub halt_does : action_of (meaning halt) ≡ Some A.Halt
 unfolding action_of meant counted canonical grouped_of number_of
 halt_does = refl
 
@@ -55,12 +54,12 @@ module _ (image : List ℕ) where
   behind at bs t e = sym (drop-drop (length bs) at image) ∙ ap (λ (l : List ℕ). drop (length bs) l) e ∙ drop-append_seam bs t
 
   -- a record that is accepted at IP is what the step carries out
-  pub fetched : (insn : InstructionData) (at : ℕ) (bs t : List ℕ) (a : Action) → at + length bs < 65536 → is_repeat_alone bs ≡ false → answer insn at ≡ bytes bs
+  pub fetched : (insn : InstructionData) (at : ℕ) (bs t : List ℕ) (a : Option Action) → at + length bs < 65536 → is_repeat_alone bs ≡ false → answer insn at ≡ bytes bs
       → action_of (meaning insn) ≡ a → drop at image ≡ bs ++ t → (r : List ℕ)
       → step_of image (machine r at) ≡ performed a (at + length bs) (machine r at)
   unfolding step_of
   fetched insn at bs t a h alone q d e r =
-      let w : reads at (bs ++ t) ≡ Whole (meaning insn) (length bs) = whole_stays at bs t (meaning insn) (length bs) alone (accepted_reads insn at (omega arith) bs q).reads_it in
+      let w : reads at (bs ++ t) ≡ Ok (meaning insn, length bs) = whole_stays at bs t (meaning insn) (length bs) alone (accepted_reads insn at (omega arith) bs q).reads_it in
       let m : (at + length bs) % 65536 ≡ at + length bs = omega arith in
       rw (e, w, d, m) refl
 
@@ -82,7 +81,7 @@ module _ (image : List ℕ) where
     halts m m' e b n log = rw e
 
     -- ---- LOOP to itself at q: as many steps as CX says
-    module _ (q : ℕ) (is_loop : (r : List ℕ) → step_of image (machine r q) ≡ performed (A.Loop q) (q + 2) (machine r q)) (r : List ℕ) (h : 1 < length r) where
+    module _ (q : ℕ) (is_loop : (r : List ℕ) → step_of image (machine r q) ≡ performed (Some (A.Loop q)) (q + 2) (machine r q)) (r : List ℕ) (h : 1 < length r) where
       round : (k : ℕ) → suc k < 65536 → less1 (get_or (set r 1 (suc k)) 1 0) ≡ k
       round k l = rw (get_or-set_same r 1 (suc k) 0 h) (omega arith)
 

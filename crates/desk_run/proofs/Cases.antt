@@ -1,5 +1,6 @@
 -- Runs of document 02, No. 10, worked out, one row each.
 -- Assumes nothing.
+use Rattle.std.specs.Prelude.{Ok}
 use mathlib.Core.Path.{◌≡◌, refl}
 use mathlib.Core.List.{List, [], ◌∷◌, ◌++◌}
 use Prim.Native.Nat.{ℕ}
@@ -10,8 +11,7 @@ use Rattle.x86.specs.Forms.{forms}
 use Rattle.x86.specs.Reading.{reads, read_plain, is_repeat, repeats, read_form, starting_with, prefix}
 use Rattle.desk_step.specs.Step.{action_of, performed, step_of}
 use Rattle.desk_run.specs.declared.RunError.TheVariants as N
-use Rattle.desk_run.specs.declared.Ran.TheVariants as R
-use Rattle.desk_run.specs.Running.{number_of as number, halted, refused, ran, ending, answered, log_after}
+use Rattle.desk_run.specs.Running.{halted, refused, ran, ending, halted_with, answered, log_after, number_of as number}
 
 pub record Rows : Type 0 where
   pub halt : ending (0xF4 ∷ []) 1 0 ≡ halted 1 []
@@ -57,7 +57,7 @@ pub record Order : Type 0 where
   pub last_step : ending (0xB0 ∷ 0x07 ∷ 0xF4 ∷ []) 2 0 ≡ halted 2 []
   pub one_less : ending (0xB0 ∷ 0x07 ∷ 0xF4 ∷ []) 1 0 ≡ refused N.BudgetSpent
   -- two bytes a pair; the log behind them, and all of it where the run is refused
-  pub length_in_bytes : answered (ending (0xE6 ∷ 0x01 ∷ 0xE6 ∷ 0x02 ∷ 0xF4 ∷ []) 3 4) ≡ R.Halted 3 4
+  pub length_in_bytes : answered (ending (0xE6 ∷ 0x01 ∷ 0xE6 ∷ 0x02 ∷ 0xF4 ∷ []) 3 4) ≡ Ok (halted_with 3 4)
   pub log_behind : log_after (ending (0xB0 ∷ 0x07 ∷ 0xE6 ∷ 0x01 ∷ 0xF4 ∷ []) 3 4) (9 ∷ 9 ∷ 9 ∷ 9 ∷ []) ≡ 1 ∷ 7 ∷ 9 ∷ 9 ∷ []
   pub log_of_a_refusal : log_after (ending (0xB0 ∷ 0x07 ∷ 0xE6 ∷ 0x01 ∷ 0x90 ∷ []) 3 4) (9 ∷ 9 ∷ 9 ∷ 9 ∷ []) ≡ 9 ∷ 9 ∷ 9 ∷ 9 ∷ []
 

@@ -3,7 +3,7 @@
 use mathlib.Core.Path.{◌≡◌, refl, sym, ap, ◌∙◌}
 use mathlib.Core.Bool.{Bool, true, false}
 use mathlib.Core.List.{List, [], ◌∷◌, ◌++◌, append-nil, append_assoc}
-use Prim.Native.Nat.{ℕ, zero, suc, ◌+◌, ◌-◌, ◌<◌, ◌≤◌}
+use Prim.Native.Nat.{ℕ, zero, suc, ◌+◌, ◌<◌}
 use native.Mathlib.Omega.{arith}
 use lib.Dec.{leb}
 use lib.ListN.{length}
@@ -14,7 +14,7 @@ use Rattle.desk_step.specs.declared.Effect.TheVariants as E
 use Rattle.desk_step.specs.Step.{start, step_of}
 use Rattle.desk_run.specs.declared.RunError.{RunError}
 use Rattle.desk_run.specs.declared.RunError.TheVariants as N
-use Rattle.desk_run.specs.Running.{Ending, halted, refused, followed, ran, in_reach, ending}
+use Rattle.desk_run.specs.Running.{halted, refused, followed, ran, in_reach, ending}
 use Rattle.desk_run.specs.Turns.{added, is_last}
 use Rattle.desk_run.specs.Iterating.{iterated, put_out, Counted}
 

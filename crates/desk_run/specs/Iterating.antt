@@ -1,10 +1,9 @@
 -- The step taken one by one, without budget, log or count, and what a count of instructions carried out says of it.
 -- Definitions only.
-use Rattle.std.specs.Prelude.{ℕ, zero, suc, ◌<◌, ◌≤◌, ◌≡◌, false, List, [], ◌++◌, length}
+use Rattle.std.specs.Prelude.{ℕ, zero, suc, ◌<◌, ◌≤◌, ◌≡◌, false, List, [], ◌++◌}
 use Rattle.desk_step.specs.declared.Machine.{Machine}
 use Rattle.desk_step.specs.declared.Effect.TheVariants as E
-use Rattle.desk_step.specs.Step.{start, step_of}
-use Rattle.desk_run.specs.Running.{in_reach}
+use Rattle.desk_step.specs.Step.{step_of}
 use Rattle.desk_run.specs.Turns.{added, is_last}
 
 -- the machine after n steps

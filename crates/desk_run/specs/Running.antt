@@ -1,14 +1,13 @@
 -- A run: the step taken one by one under a budget, with a log of the OUTs carried out (REFERENCE 15).
 -- Definitions only.
-use Rattle.std.specs.Prelude.{ℕ, zero, suc, ◌+◌, Bool, true, false, List, [], ◌∷◌, ◌++◌, leb, length, take, drop}
+use Rattle.std.specs.Prelude.{ℕ, zero, suc, ◌+◌, Bool, true, false, List, [], ◌∷◌, ◌++◌, leb, length, take, drop, Result, Ok, Err}
 use Rattle.mrc_compiler.specs.Choose.{pick}
 use Rattle.desk_step.specs.declared.Machine.{Machine}
 use Rattle.desk_step.specs.declared.Effect.{Effect}
 use Rattle.desk_step.specs.declared.Effect.TheVariants as E
 use Rattle.desk_run.specs.declared.RunError.{RunError}
 use Rattle.desk_run.specs.declared.RunError.TheVariants as N
-use Rattle.desk_run.specs.declared.Ran.{Ran}
-use Rattle.desk_run.specs.declared.Ran.TheVariants as R
+use Rattle.desk_run.specs.declared.Halted.{Halted}
 use Rattle.desk_step.specs.Step.{start, step_of}
 
 -- ---- refusals: document 02's number for each case
@@ -49,9 +48,12 @@ abbrev pub ending : List ℕ → ℕ → ℕ → Ending
 ending image budget room = ran (in_reach image) room budget 0 start []
 
 -- ---- what is answered, and what is left in the lent log
-abbrev pub answered : Ending → Ran
-answered (halted n log) = R.Halted n (length log)
-answered (refused e) = R.Refused e
+abbrev pub halted_with : ℕ → ℕ → Halted
+halted_with count log_length = record { count = count; log_length = log_length }
+
+abbrev pub answered : Ending → Result Halted RunError
+answered (halted n log) = Ok (halted_with n (length log))
+answered (refused e) = Err e
 
 abbrev pub log_after : Ending → List ℕ → List ℕ
 log_after (halted n log) lent = log ++ drop (length log) lent

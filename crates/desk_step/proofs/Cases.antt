@@ -1,6 +1,6 @@
 -- Steps by the manual (SDM, volume 2: MOV, LOOP, JMP, OUT, HLT), one row each. The registers are AX CX DX BX SP BP SI DI.
 -- Assumes nothing.
-use Rattle.std.proofs.Common.{◌≡◌, ℕ, List, [], ◌∷◌, refl}
+use Rattle.std.proofs.Common.{◌≡◌, ℕ, [], ◌∷◌, refl}
 use Rattle.mrc_compiler.specs.Operations.{number_of, is_string}
 use Rattle.x86.specs.Instructions.{canonical}
 use Rattle.x86.specs.Forms.{forms}

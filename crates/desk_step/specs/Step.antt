@@ -1,7 +1,8 @@
 -- One step of the 8086, as far as the desk has it (REFERENCE 15): the instruction that stands at IP, by the table of forms, is carried out as
 -- the SDM says (volume 2, MOV, LOOP, JMP, OUT, HLT). Segments, flags and memory play no part.
 -- Definitions only.
-use Rattle.std.specs.Prelude.{◌≡◌, ℕ, ◌+◌, ◌-◌, ◌*◌, ◌/◌, ◌%◌, ◌<◌, List, [], ◌∷◌, drop, ◌==◌, nat_lt, slice_index, slice_set}
+use Rattle.std.specs.Prelude.{◌≡◌, ℕ, ◌+◌, ◌-◌, ◌*◌, ◌/◌, ◌%◌, ◌<◌, List, [], ◌∷◌, drop, ◌==◌, nat_lt, slice_index, slice_set, Option, Some, None, option_map, Ok, Err}
+use Rattle.std.specs.Option.{option_and_then}
 use Rattle.mrc_compiler.specs.declared.encoder.OperandSize.{OperandSize}
 use Rattle.mrc_compiler.specs.declared.operations.Operation.TheVariants as Op
 use Rattle.mrc_compiler.specs.Choose.{pick, by_size}
@@ -9,9 +10,7 @@ use Rattle.mrc_compiler.specs.Operations.{same_operation}
 use Rattle.x86.specs.declared.Operand.{Operand}
 use Rattle.x86.specs.declared.Operand.TheVariants as O
 use Rattle.x86.specs.declared.Instruction.{Instruction}
-use Rattle.x86.specs.declared.Read.{Read}
-use Rattle.x86.specs.declared.Read.TheVariants.{Whole, Nothing, More}
-use Rattle.x86.specs.Reading.{reads}
+use Rattle.x86.specs.Reading.{Read, reads}
 use Rattle.desk_step.specs.declared.Machine.{Machine}
 use Rattle.desk_step.specs.declared.Action.{Action}
 use Rattle.desk_step.specs.declared.Action.TheVariants as A
@@ -19,8 +18,6 @@ use Rattle.desk_step.specs.declared.Effect.{Effect}
 use Rattle.desk_step.specs.declared.Effect.TheVariants as E
 use Rattle.desk_step.specs.declared.Fetched.{Fetched}
 use Rattle.desk_step.specs.declared.Known.{Known}
-use Rattle.desk_step.specs.declared.Held.{Held}
-use Rattle.desk_step.specs.declared.Held.TheVariants as H
 use Rattle.desk_step.specs.declared.Stepped.{Stepped}
 
 -- ---- the machine
@@ -51,70 +48,67 @@ with_byte registers n v =
     (with_word registers (n - 4) (v * 256 + word_in registers (n - 4) % 256))
 
 -- ---- the number in an operand of a kind
-abbrev pub register_in : Operand → Held
-register_in O.None = H.None
-register_in (O.Register n) = H.Is n
-register_in (O.SegmentRegister n) = H.None
-register_in (O.Memory b d s) = H.None
-register_in (O.Immediate v) = H.None
-register_in (O.Near t) = H.None
-register_in (O.Far t s) = H.None
-register_in O.One = H.None
+abbrev pub register_in : Operand → Option ℕ
+register_in O.None = None
+register_in (O.Register n) = Some n
+register_in (O.SegmentRegister n) = None
+register_in (O.Memory b d s) = None
+register_in (O.Immediate v) = None
+register_in (O.Near t) = None
+register_in (O.Far t s) = None
+register_in O.One = None
 
-abbrev pub immediate_in : Operand → Held
-immediate_in O.None = H.None
-immediate_in (O.Register n) = H.None
-immediate_in (O.SegmentRegister n) = H.None
-immediate_in (O.Memory b d s) = H.None
-immediate_in (O.Immediate v) = H.Is v
-immediate_in (O.Near t) = H.None
-immediate_in (O.Far t s) = H.None
-immediate_in O.One = H.None
+abbrev pub immediate_in : Operand → Option ℕ
+immediate_in O.None = None
+immediate_in (O.Register n) = None
+immediate_in (O.SegmentRegister n) = None
+immediate_in (O.Memory b d s) = None
+immediate_in (O.Immediate v) = Some v
+immediate_in (O.Near t) = None
+immediate_in (O.Far t s) = None
+immediate_in O.One = None
 
-abbrev pub near_in : Operand → Held
-near_in O.None = H.None
-near_in (O.Register n) = H.None
-near_in (O.SegmentRegister n) = H.None
-near_in (O.Memory b d s) = H.None
-near_in (O.Immediate v) = H.None
-near_in (O.Near t) = H.Is t
-near_in (O.Far t s) = H.None
-near_in O.One = H.None
-
-abbrev pub by_held : {A : Type 0} → Held → (ℕ → A) → A → A
-by_held (H.Is n) f e = f n
-by_held H.None f e = e
+abbrev pub near_in : Operand → Option ℕ
+near_in O.None = None
+near_in (O.Register n) = None
+near_in (O.SegmentRegister n) = None
+near_in (O.Memory b d s) = None
+near_in (O.Immediate v) = None
+near_in (O.Near t) = Some t
+near_in (O.Far t s) = None
+near_in O.One = None
 
 -- ---- which instructions are carried out
 -- MOV register,immediate, of both widths (B0 and B8 + register, and C6 and C7 where the r/m field is a register)
-abbrev pub move_of : OperandSize → ℕ → ℕ → Action
-move_of w r v = by_size w A.Other (A.MoveByte r (v % 256)) (A.MoveWord r v)
+abbrev pub move_of : OperandSize → ℕ → ℕ → Option Action
+move_of w r v = by_size w None (Some (A.MoveByte r (v % 256))) (Some (A.MoveWord r v))
 
 -- OUT immediate port from AL (E6)
-abbrev pub out_of : OperandSize → ℕ → ℕ → Action
-out_of w port r = by_size w A.Other (pick (r == ax) (A.Output (port % 256)) A.Other) A.Other
+abbrev pub out_of : OperandSize → ℕ → ℕ → Option Action
+out_of w port r = by_size w None (pick (r == ax) (Some (A.Output (port % 256))) None) None
 
-abbrev pub moves_of : Instruction → Action
-moves_of m = by_held (register_in m.first) (λ r. by_held (immediate_in m.second) (λ v. move_of m.width r v) A.Other) A.Other
+abbrev pub moves_of : Instruction → Option Action
+moves_of m = option_and_then (λ r. option_and_then (λ v. move_of m.width r v) (immediate_in m.second)) (register_in m.first)
 
-abbrev pub outputs_of : Instruction → Action
-outputs_of m = by_held (immediate_in m.first) (λ p. by_held (register_in m.second) (λ r. out_of m.width p r) A.Other) A.Other
+abbrev pub outputs_of : Instruction → Option Action
+outputs_of m = option_and_then (λ p. option_and_then (λ r. out_of m.width p r) (register_in m.second)) (immediate_in m.first)
 
-abbrev pub loops_of : Instruction → Action
-loops_of m = by_held (near_in m.first) (λ t. A.Loop t) A.Other
+abbrev pub loops_of : Instruction → Option Action
+loops_of m = option_map (λ t. A.Loop t) (near_in m.first)
 
 -- to a near target: E9 and EB
-abbrev pub jumps_of : Instruction → Action
-jumps_of m = by_held (near_in m.first) (λ t. A.Jump t) A.Other
+abbrev pub jumps_of : Instruction → Option Action
+jumps_of m = option_map (λ t. A.Jump t) (near_in m.first)
 
-unfoldable pub action_of : Instruction → Action
+-- any other instruction is not carried out
+unfoldable pub action_of : Instruction → Option Action
 action_of m =
     let op = m.operation in
     pick (same_operation op Op.MOV) (moves_of m)
     (pick (same_operation op Op.LOOP) (loops_of m)
     (pick (same_operation op Op.JMP) (jumps_of m)
     (pick (same_operation op Op.OUT) (outputs_of m)
-    (pick (same_operation op Op.HLT) A.Halt A.Other))))
+    (pick (same_operation op Op.HLT) (Some A.Halt) None))))
 
 -- ---- what each does; next is the offset past the instruction
 abbrev pub shown : Effect → List ℕ → ℕ → Stepped
@@ -132,36 +126,34 @@ looped t next registers =
 abbrev pub refused_at : Machine → Stepped
 refused_at m = shown E.Refused m.registers m.ip
 
-unfoldable pub performed : Action → ℕ → Machine → Stepped
-performed (A.MoveWord r v) next m = shown E.Goes (with_word m.registers r v) next
-performed (A.MoveByte r v) next m = shown E.Goes (with_byte m.registers r v) next
-performed (A.Loop t) next m = looped t next m.registers
-performed (A.Jump t) next m = shown E.Goes m.registers t
-performed (A.Output port) next m = shown (E.Outputs port (word_in m.registers ax % 256)) m.registers next
-performed A.Halt next m = shown E.Halts m.registers next
-performed A.Other next m = refused_at m
+unfoldable pub performed : Option Action → ℕ → Machine → Stepped
+performed (Some (A.MoveWord r v)) next m = shown E.Goes (with_word m.registers r v) next
+performed (Some (A.MoveByte r v)) next m = shown E.Goes (with_byte m.registers r v) next
+performed (Some (A.Loop t)) next m = looped t next m.registers
+performed (Some (A.Jump t)) next m = shown E.Goes m.registers t
+performed (Some (A.Output port)) next m = shown (E.Outputs port (word_in m.registers ax % 256)) m.registers next
+performed (Some A.Halt) next m = shown E.Halts m.registers next
+performed None next m = refused_at m
 
 -- ---- the step: the instruction at IP lies whole inside the image, and behind it the offset wraps at 65,536
 abbrev pub carried_out : Machine → Read → Stepped
-carried_out m (Whole i n) = performed (action_of i) ((m.ip + n) % 65536) m
-carried_out m Nothing = refused_at m
-carried_out m More = refused_at m
+carried_out m (Ok (i, n)) = performed (action_of i) ((m.ip + n) % 65536) m
+carried_out m (Err e) = refused_at m
 
 unfoldable pub step_of : List ℕ → Machine → Stepped
 step_of image m = carried_out m (reads m.ip (drop m.ip image))
 
 -- ---- the same, with what stands at an offset read once: the image does not change
 abbrev pub fetched_by : Read → Fetched
-fetched_by (Whole i n) = record { action = action_of i; length = n % 65536 }
-fetched_by Nothing = record { action = A.Other; length = 0 }
-fetched_by More = record { action = A.Other; length = 0 }
+fetched_by (Ok (i, n)) = record { action = action_of i; length = n % 65536 }
+fetched_by (Err e) = record { action = None; length = 0 }
 
 unfoldable pub fetched_at : List ℕ → ℕ → Fetched
 fetched_at image ip = fetched_by (reads ip (drop ip image))
 
 -- nothing yet, as no offset is 65,536
 abbrev pub none_known : Known
-none_known = record { at = 65536; fetched = record { action = A.Other; length = 0 } }
+none_known = record { at = 65536; fetched = record { action = None; length = 0 } }
 
 abbrev pub known_at : List ℕ → ℕ → Known
 known_at image ip = record { at = ip; fetched = fetched_at image ip }

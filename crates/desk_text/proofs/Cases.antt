@@ -1,5 +1,6 @@
 -- Texts of document 02, No. 10, in ASCII, and budgets.
 -- Assumes nothing.
+use Rattle.std.specs.Prelude.{None, Some}
 use mathlib.Core.Path.{◌≡◌, refl}
 use mathlib.Core.Bool.{true, false}
 use mathlib.Core.List.{List, [], ◌∷◌, ◌++◌}
@@ -7,7 +8,6 @@ use Prim.Native.Nat.{ℕ}
 use Rattle.desk_run.specs.declared.RunError.TheVariants as N
 use Rattle.desk_run.specs.Running.{halted, refused}
 use Rattle.text_line.specs.Numbers.{hex_byte, digit_from, decimal, long_decimal}
-use Rattle.desk_text.specs.declared.Budget.TheVariants as B
 use Rattle.desk_text.specs.Budget.{is_budget, budget_of}
 use Rattle.desk_text.specs.Lines.{pairs_text, text_by, fits}
 
@@ -34,17 +34,17 @@ record Texts : Type 0 where
 
 record Budgets : Type 0 where
   -- "0", "007", "4294967295"
-  zero : budget_of (0x30 ∷ []) ≡ B.Steps 0
-  leading_zeros : budget_of (0x30 ∷ 0x30 ∷ 0x37 ∷ []) ≡ B.Steps 7
-  greatest : budget_of (0x34 ∷ 0x32 ∷ 0x39 ∷ 0x34 ∷ 0x39 ∷ 0x36 ∷ 0x37 ∷ 0x32 ∷ 0x39 ∷ 0x35 ∷ []) ≡ B.Steps 4294967295
+  zero : budget_of (0x30 ∷ []) ≡ Some 0
+  leading_zeros : budget_of (0x30 ∷ 0x30 ∷ 0x37 ∷ []) ≡ Some 7
+  greatest : budget_of (0x34 ∷ 0x32 ∷ 0x39 ∷ 0x34 ∷ 0x39 ∷ 0x36 ∷ 0x37 ∷ 0x32 ∷ 0x39 ∷ 0x35 ∷ []) ≡ Some 4294967295
   -- "4294967296", the empty text, "-1", "+1", "1 ", "/", ":"
-  one_more : budget_of (0x34 ∷ 0x32 ∷ 0x39 ∷ 0x34 ∷ 0x39 ∷ 0x36 ∷ 0x37 ∷ 0x32 ∷ 0x39 ∷ 0x36 ∷ []) ≡ B.NoNumber
-  empty : budget_of [] ≡ B.NoNumber
-  minus : budget_of (0x2D ∷ 0x31 ∷ []) ≡ B.NoNumber
-  plus : budget_of (0x2B ∷ 0x31 ∷ []) ≡ B.NoNumber
-  blank : budget_of (0x31 ∷ 0x20 ∷ []) ≡ B.NoNumber
-  below_0 : budget_of (0x2F ∷ []) ≡ B.NoNumber
-  above_9 : budget_of (0x3A ∷ []) ≡ B.NoNumber
+  one_more : budget_of (0x34 ∷ 0x32 ∷ 0x39 ∷ 0x34 ∷ 0x39 ∷ 0x36 ∷ 0x37 ∷ 0x32 ∷ 0x39 ∷ 0x36 ∷ []) ≡ None
+  empty : budget_of [] ≡ None
+  minus : budget_of (0x2D ∷ 0x31 ∷ []) ≡ None
+  plus : budget_of (0x2B ∷ 0x31 ∷ []) ≡ None
+  blank : budget_of (0x31 ∷ 0x20 ∷ []) ≡ None
+  below_0 : budget_of (0x2F ∷ []) ≡ None
+  above_9 : budget_of (0x3A ∷ []) ≡ None
 
 texts : Texts
 unfolding pairs_text fits hex_byte decimal long_decimal digit_from

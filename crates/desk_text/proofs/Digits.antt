@@ -1,6 +1,7 @@
 -- The laws of decimal digits: one more, one that is none, and that a value only grows.
 -- Assumes nothing.
-use mathlib.Core.Path.{◌≡◌, refl, ap, ◌∙◌}
+use Rattle.std.specs.Prelude.{None, Some}
+use mathlib.Core.Path.{◌≡◌, refl, ◌∙◌}
 use mathlib.Core.Bool.{Bool, true, false}
 use mathlib.Core.List.{List, [], ◌∷◌}
 use Prim.Native.Nat.{ℕ, zero, suc, ◌+◌, ◌*◌, ◌-◌, ◌<◌, ◌≤◌}
@@ -10,8 +11,12 @@ use lib.ListN.{length, take, get_or}
 use lib.Seq.{take-length}
 use borrow.Author.Tests.{le-leb, lt-leb}
 use Rattle.mrc_compiler.specs.Choose.{pick, both}
-use Rattle.desk_text.specs.declared.Budget.TheVariants as B
+use Rattle.std.specs.Char.{is_ascii_digit}
 use Rattle.desk_text.specs.Budget.{is_digit, are_digits, value_behind, is_budget, budget_of}
+
+-- a digit, by std's word
+by_ascii : (b : ℕ) → is_digit b ≡ is_ascii_digit b
+by_ascii b = refl
 
 grows : (n : ℕ) (l : List ℕ) → n ≤ value_behind n l
 grows n [] = omega arith
@@ -65,7 +70,7 @@ read_next l i n m r less low high e small = record {
   small = small;
 }
 
-pub read_whole : (l : List ℕ) (i n : ℕ) → Read l i n → length l ≤ i → 1 ≤ length l → B.Steps n ≡ budget_of l
+pub read_whole : (l : List ℕ) (i n : ℕ) → Read l i n → length l ≤ i → 1 ≤ length l → Some n ≡ budget_of l
 unfolding is_budget budget_of
 read_whole l i n r all some =
     let q : i ≡ length l = let h = r.inside in omega arith in
@@ -73,21 +78,18 @@ read_whole l i n r all some =
     let v : n ≡ value_behind 0 l = rw (q, take-length l) at r.value in
     rw (le-leb 1 (length l) some, d, ← v, le-leb n 0xFFFFFFFF r.small) refl
 
-no_digit : (l : List ℕ) (i : ℕ) → i < length l → is_digit (get_or l i 0) ≡ false → B.NoNumber ≡ budget_of l
+no_digit : (l : List ℕ) (i : ℕ) → i < length l → is_digit (get_or l i 0) ≡ false → None ≡ budget_of l
 unfolding is_budget budget_of
 no_digit l i less d = rw (none i l less d) (on (leb 1 (length l)))
   where
-    on : (t : Bool) → B.NoNumber ≡ pick (both t false) (B.Steps (value_behind 0 l)) B.NoNumber
+    on : (t : Bool) → None ≡ pick (both t false) (Some (value_behind 0 l)) None
     on true = refl
     on false = refl
 
-pub too_low : (l : List ℕ) (i : ℕ) → i < length l → get_or l i 0 < 0x30 → B.NoNumber ≡ budget_of l
-too_low l i less low = no_digit l i less (rw (lt-leb 0x30 (get_or l i 0) low) refl)
+pub another : (l : List ℕ) (i : ℕ) → i < length l → is_ascii_digit (get_or l i 0) ≡ false → None ≡ budget_of l
+another l i less d = no_digit l i less (by_ascii (get_or l i 0) ∙ d)
 
-pub too_high : (l : List ℕ) (i : ℕ) → i < length l → 0x39 < get_or l i 0 → B.NoNumber ≡ budget_of l
-too_high l i less high = no_digit l i less (rw (le-leb 0x30 (get_or l i 0) (omega arith), lt-leb (get_or l i 0) 0x39 high) refl)
-
-pub too_large : (l : List ℕ) (i n m : ℕ) → Read l i n → i < length l → m ≡ 10 * n + (get_or l i 0 - 0x30) → 0xFFFFFFFF < m → B.NoNumber ≡ budget_of l
+pub too_large : (l : List ℕ) (i n m : ℕ) → Read l i n → i < length l → m ≡ 10 * n + (get_or l i 0 - 0x30) → 0xFFFFFFFF < m → None ≡ budget_of l
 unfolding is_budget budget_of
 too_large l i n m r less e large =
     let v = value_next 0 i l less in
@@ -95,12 +97,12 @@ too_large l i n m r less e large =
     let f = front_less 0 (i + 1) l in
     rw (lt-leb (value_behind 0 l) 0xFFFFFFFF (omega arith)) (on (leb 1 (length l)) (are_digits l))
   where
-    on : (s t : Bool) → B.NoNumber ≡ pick (both s (both t false)) (B.Steps (value_behind 0 l)) B.NoNumber
+    on : (s t : Bool) → None ≡ pick (both s (both t false)) (Some (value_behind 0 l)) None
     on true true = refl
     on true false = refl
     on false true = refl
     on false false = refl
 
-pub empty : (l : List ℕ) → length l ≡ 0 → B.NoNumber ≡ budget_of l
+pub empty : (l : List ℕ) → length l ≡ 0 → None ≡ budget_of l
 unfolding is_budget budget_of
 empty l e = rw (lt-leb 1 (length l) (omega arith)) refl

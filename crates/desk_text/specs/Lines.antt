@@ -1,11 +1,10 @@
 -- The text that `fsqrun` prints of a run (REFERENCE 15), in ASCII.
 -- Definitions only.
-use Rattle.std.specs.Prelude.{ℕ, ◌+◌, ◌*◌, Bool, List, [], ◌∷◌, ◌++◌, leb, length, drop}
+use Rattle.std.specs.Prelude.{ℕ, ◌+◌, ◌*◌, Bool, List, [], ◌∷◌, ◌++◌, leb, length, drop, Result, Ok, Err}
 use Rattle.mrc_compiler.specs.Choose.{pick, both}
 use Rattle.desk_run.specs.Running.{Ending, halted, refused, number_of, ending, log_after}
+use Rattle.text_line.specs.declared.TooShort.{TooShort}
 use Rattle.text_line.specs.Numbers.{blank, line_feed, hex_byte, decimal, long_decimal}
-use Rattle.desk_text.specs.declared.Written.{Written}
-use Rattle.desk_text.specs.declared.Written.TheVariants as W
 
 -- port and mask, in hexadecimal
 abbrev pub pair_line : ℕ → ℕ → List ℕ
@@ -36,8 +35,12 @@ run_text image budget room = text_by (ending image budget room)
 unfoldable pub fits : ℕ → ℕ → Bool
 fits room size = both (leb room 65536) (leb (3 * room + 18) size)
 
-unfoldable pub written : List ℕ → ℕ → ℕ → ℕ → Written
-written image budget room size = pick (fits room size) (W.Length (length (run_text image budget room))) W.TooShort
+-- the one value of its type
+abbrev pub too_short : TooShort
+too_short = record {}
+
+unfoldable pub written : List ℕ → ℕ → ℕ → ℕ → Result ℕ TooShort
+written image budget room size = pick (fits room size) (Ok (length (run_text image budget room))) (Err too_short)
 
 unfoldable pub out_after : List ℕ → ℕ → ℕ → List ℕ → List ℕ
 out_after image budget room out =

@@ -1,10 +1,7 @@
-use Prim.Native.Nat.{◌-◌}
-use lib.ListN.{length}
-use Rattle.cue_compile.proofs.Laws.{Searched}
+use Rattle.std.specs.Prelude.{◌≡◌}
+use Rattle.std.specs.Slice.Iter.{chunks_exact_rest, chunks_exact_size}
+use Rattle.cue_compile.specs.Cues.{cues_in, some_without}
 use Rattle.cue_compile.proofs.some_without.Given as goal
 
-abbrev pub invariant-loop-k : goal.invariant-loop-k
-invariant-loop-k l = Searched l.cues l.k
-
-abbrev pub decreases-loop-k : goal.decreases-loop-k
-decreases-loop-k l = length l.cues - l.k
+abbrev pub invariant-loop-bytes : goal.invariant-loop-bytes
+invariant-loop-bytes l = record { four : chunks_exact_size l.bytes-iterator ≡ 4; same : some_without (cues_in l.cues) ≡ some_without (cues_in (chunks_exact_rest l.bytes-iterator)) }

@@ -1,41 +1,45 @@
-use mathlib.Core.Path.{refl}
-use native.Mathlib.Omega.{arith}
-use Rattle.desk_step.proofs.Laws.{known_is, none_is}
-use Rattle.desk_run.proofs.Laws.{going_start, ends, goes_on, spent}
+use Rattle.std.proofs.Common.{arith, refl}
+use Rattle.desk_step.proofs.Laws.{known_is}
+use Rattle.desk_run.proofs.Laws.{goes, puts_out, no_room, halts_here, refused_here, spent}
+use Rattle.desk_run.proofs.measure.Goals.{in-Goes, in-Outputs+else-room-at-lt2}
 use Rattle.desk_run.proofs.measure.Goals as goal
 
-pub loop-left-init : goal.loop-left-init
-loop-left-init c =
+pub returns-then-room-at-lt2 : goal.returns-then-room-at-lt2
+returns-then-room-at-lt2 c =
     let a = c.args in
-    (going_start a.image.now a.room a.budget _ c.start_of-m.ensures, none_is a.image.now _ c.none_known-known.ensures)
+    let o = c.loop-before in
+    let r = o.invariant.going.room_in in
+    no_room a.image.now a.room a.budget o.before o.machine o.at o.invariant.going c.loop-before-test.true _ c.step-done.ensures.stepped_value _ _ c.in-Outputs.is (omega arith)
 
-pub step-done-requires : goal.step-done-requires
-step-done-requires c = c.loop-left.invariant.1
-
-pub overflow_sub-budget : goal.overflow_sub-budget
-overflow_sub-budget c = let h = c.loop-left.invariant.0.left_in in omega arith
-
-pub turn_of-turn-requires : goal.turn_of-turn-requires
-turn_of-turn-requires c = c.loop-left.invariant.0.room_in
-
-pub returns-in-Ended : goal.returns-in-Ended
-returns-in-Ended c =
-    let s = c in
-    let o = c.loop-left in
+pub returns-in-Halts : goal.returns-in-Halts
+returns-in-Halts c =
     let a = c.args in
-    ends a.image.now a.room a.budget o.left o.m o.at o.invariant.0 c.loop-left-test.true _ c.step-done.ensures.stepped_value _ c.turn_of-turn.ensures _ c.in-Ended.is
+    let o = c.loop-before in
+    halts_here a.image.now a.room a.budget o.before o.machine o.at o.invariant.going c.loop-before-test.true _ c.step-done.ensures.stepped_value c.in-Halts.is
 
-pub loop-left-preserved : goal.loop-left-preserved
-loop-left-preserved c =
-    let s = c in
-    let o = c.loop-left in
-    let a = c.args in (
-      goes_on a.image.now a.room a.budget o.left o.m o.at o.invariant.0 c.loop-left-test.true _ c.step-done.ensures.stepped_value _ c.turn_of-turn.ensures _ c.in-On.is,
-      known_is a.image.now o.m.ip _ c.step-done.ensures.known_value,
-    )
+pub returns-in-Refused : goal.returns-in-Refused
+returns-in-Refused c =
+    let a = c.args in
+    let o = c.loop-before in
+    refused_here a.image.now a.room a.budget o.before o.machine o.at o.invariant.going c.loop-before-test.true _ c.step-done.ensures.stepped_value c.in-Refused.is
+
+pub loop-before-preserved : goal.loop-before-preserved
+loop-before-preserved c =
+    let a = c.args in
+    let o = c.loop-before in
+    let g = o.invariant.going in
+    let h = c.loop-before-test.true in
+    let s = c.step-done.ensures.stepped_value in
+    record {
+      going = elim c.match-done.branch [
+        | in-Goes w ↦ rw w.at-is (goes a.image.now a.room a.budget o.before o.machine o.at g h _ s w.in-Goes.is)
+        | in-Outputs+else-room-at-lt2 w ↦ let r = w.if-room-at-lt2.false in rw w.at-is (puts_out a.image.now a.room a.budget o.before o.machine o.at g h _ s _ _ w.in-Outputs.is (omega arith))
+      ];
+      is_known = known_is a.image.now o.machine.ip _ c.step-done.ensures.known_value;
+    }
 
 pub returns : goal.returns
 returns c =
-    let o = c.loop-left in
     let a = c.args in
-    rw (spent a.image.now a.room a.budget o.left o.m o.at o.invariant.0 c.loop-left-test.false) refl
+    let o = c.loop-before in
+    rw (spent a.image.now a.room a.budget o.before o.machine o.at o.invariant.going c.loop-before-test.false) refl

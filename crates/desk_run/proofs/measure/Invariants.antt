@@ -2,8 +2,5 @@ use Rattle.desk_step.specs.Step.{IsKnown}
 use Rattle.desk_run.proofs.Laws.{Going}
 use Rattle.desk_run.proofs.measure.Given as goal
 
-abbrev pub invariant-loop-left : goal.invariant-loop-left
-invariant-loop-left l = Going l.image l.room l.budget l.left l.m l.at × IsKnown l.image l.known
-
-abbrev pub decreases-loop-left : goal.decreases-loop-left
-decreases-loop-left l = l.left
+abbrev pub invariant-loop-before : goal.invariant-loop-before
+invariant-loop-before l = record { going : Going l.image l.room l.budget l.before l.machine l.at; is_known : IsKnown l.image l.known }

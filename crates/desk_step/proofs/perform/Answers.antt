@@ -1,30 +1,33 @@
+use Rattle.std.specs.Prelude.{◌≡◌, Some}
+use Rattle.std.proofs.Common.{rules}
+use Rattle.desk_step.specs.declared.Action.TheVariants as A
 use Rattle.desk_step.specs.Step.{performed}
 use Rattle.desk_step.proofs.perform.Goals as goal
 
-pub returns-in-MoveWord : goal.returns-in-MoveWord
+pub returns-in-Some-MoveWord : goal.returns-in-Some-MoveWord
 unfolding performed
-returns-in-MoveWord c = rw (c.in-MoveWord.is, ← c.with_word.ensures) c.showing.ensures
+returns-in-Some-MoveWord c = let e : c.args.action ≡ Some (A.MoveWord c.in-Some-MoveWord.n c.in-Some-MoveWord.v) = search rules in rw (e, ← c.with_word.ensures) c.showing.ensures
 
-pub returns-in-MoveByte : goal.returns-in-MoveByte
+pub returns-in-Some-MoveByte : goal.returns-in-Some-MoveByte
 unfolding performed
-returns-in-MoveByte c = rw (c.in-MoveByte.is, ← c.with_byte.ensures) c.showing-in-MoveByte.ensures
+returns-in-Some-MoveByte c = let e : c.args.action ≡ Some (A.MoveByte c.in-Some-MoveByte.n c.in-Some-MoveByte.v) = search rules in rw (e, ← c.with_byte.ensures) c.showing-in-Some-MoveByte.ensures
 
-pub returns-in-Loop : goal.returns-in-Loop
+pub returns-in-Some-Loop : goal.returns-in-Some-Loop
 unfolding performed
-returns-in-Loop c = rw c.in-Loop.is c.loop_to.ensures
+returns-in-Some-Loop c = let e : c.args.action ≡ Some (A.Loop c.in-Some-Loop.t) = search rules in rw e c.loop_to.ensures
 
-pub returns-in-Jump : goal.returns-in-Jump
+pub returns-in-Some-Jump : goal.returns-in-Some-Jump
 unfolding performed
-returns-in-Jump c = rw c.in-Jump.is c.showing-in-Jump.ensures
+returns-in-Some-Jump c = let e : c.args.action ≡ Some (A.Jump c.in-Some-Jump.t) = search rules in rw e c.showing-in-Some-Jump.ensures
 
-pub returns-in-Output : goal.returns-in-Output
+pub returns-in-Some-Output : goal.returns-in-Some-Output
 unfolding performed
-returns-in-Output c = rw (c.in-Output.is, ← c.word_in.ensures) c.showing-in-Output.ensures
+returns-in-Some-Output c = let e : c.args.action ≡ Some (A.Output c.in-Some-Output.port) = search rules in rw (e, ← c.word_in.ensures) c.showing-in-Some-Output.ensures
 
-pub returns-in-Halt : goal.returns-in-Halt
+pub returns-in-Some-Halt : goal.returns-in-Some-Halt
 unfolding performed
-returns-in-Halt c = rw c.in-Halt.is c.showing-in-Halt.ensures
+returns-in-Some-Halt c = let e : c.args.action ≡ Some A.Halt = search rules in rw e c.showing-in-Some-Halt.ensures
 
-pub returns-in-Other : goal.returns-in-Other
+pub returns-in-None : goal.returns-in-None
 unfolding performed
-returns-in-Other c = rw c.in-Other.is c.showing-in-Other.ensures
+returns-in-None c = rw c.in-None.is c.showing-in-None.ensures

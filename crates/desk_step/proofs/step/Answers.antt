@@ -5,5 +5,5 @@ use Rattle.desk_step.proofs.step.Goals as goal
 pub returns : goal.returns
 returns c =
     let a = c.args in
-    let k = c.known_at-there.ensures in
-    record { stepped_value = rw k at c.carry_out-stepped.ensures ∙ step_is a.image.now a.m; known_value = k }
+    let k = c.known_at-known.ensures in
+    record { stepped_value = rw k at c.carry_out.ensures ∙ step_is a.image.now a.m; known_value = k }
