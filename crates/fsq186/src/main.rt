@@ -1,7 +1,7 @@
 // Converts the show from a 186 module on standard input to one for the 8086 on standard output (REFERENCE 16).
 #![tactic(auto)]
 
-use convert_spec::{ConvertError, Converted};
+use convert_spec::ConvertError;
 use input::Failure;
 use show_file::LoadError;
 use std::io;
@@ -42,8 +42,8 @@ fn print_error(rt: &impl Eprint, error: ConvertError) {
 // Prints the converted file, by way of out, or says the refusal.
 fn print_converted(rt: &(impl Print + Eprint), file: &[u8], out: &mut [u8]) -> io::Result<()> {
     match show_convert::convert(file, out) {
-        Converted::File(n) => rt.write_all(&out[..n]),
-        Converted::Refused(error) => {
+        Ok(n) => rt.write_all(&out[..n]),
+        Err(error) => {
             print_error(rt, error);
             Ok(())
         }

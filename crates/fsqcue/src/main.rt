@@ -1,7 +1,7 @@
 // Compiles the cues on standard input to the image of a field module on standard output (REFERENCE 14).
 #![tactic(auto)]
 
-use cue_compile::{Compiled, CueError};
+use cue_compile::CueError;
 use input::Failure;
 use std::io;
 
@@ -13,8 +13,8 @@ fn print_refused(rt: &impl Eprint, error: CueError) {
 // Prints the image of some cues, by way of image, or says the refusal.
 fn print_image(rt: &(impl Print + Eprint), cues: &[u8], image: &mut [u8]) -> io::Result<()> {
     match cue_compile::compile(cues, image) {
-        Compiled::Length(n) => rt.write_all(&image[..n]),
-        Compiled::Refused(error) => {
+        Ok(n) => rt.write_all(&image[..n]),
+        Err(error) => {
             print_refused(rt, error);
             Ok(())
         }

@@ -2,14 +2,13 @@
 #![tactic(auto)]
 
 use input::Failure;
-use show_text::Listed;
 use std::io;
 
 // Prints the text of a show file with forms, by way of out.
 fn print_forms(rt: &impl Print, file: &[u8], out: &mut [u8]) -> io::Result<()> {
     match show_text::write_forms(file, out) {
-        Listed::Length(n) => rt.write_all(&out[..n]),
-        Listed::TooShort => Err(io::Error::other("the text is too long")),
+        Ok(n) => rt.write_all(&out[..n]),
+        Err(_) => Err(io::Error::other("the text is too long")),
     }
 }
 

@@ -2,14 +2,14 @@
 #![tactic(auto)]
 
 use input::Failure;
-use short_list::{SHORT_LENGTH, Written};
+use short_list::SHORT_LENGTH;
 use std::io;
 
 // Prints the text, by way of out.
 fn print_short(rt: &impl Print, out: &mut [u8]) -> io::Result<()> {
     match short_list::write_short(out) {
-        Written::Length(n) => rt.write_all(&out[..n]),
-        Written::TooShort => Err(io::Error::other("the text is too long")),
+        Ok(n) => rt.write_all(&out[..n]),
+        Err(_) => Err(io::Error::other("the text is too long")),
     }
 }
 

@@ -1,7 +1,7 @@
-// How a program of ours is called: no argument, and its input on standard input.
+// How a program of ours is called, and what it reads and prints: no argument, its input on standard input, and its answer on standard output.
 #![tactic(auto)]
 
-ghost use Rattle.std.specs.Prelude.{◌≡◌, ◌<◌, leb, length, take, IfOk};
+ghost use Rattle.std.specs.Prelude.{◌≡◌, ◌<◌, ◌≤◌, leb, length, take, IfOk};
 ghost use Rattle.std.specs.Io.{ReadsAtMost};
 ghost use Rattle.std.specs.Io.KnownBytes.{Consumes, IsAtEnd};
 
@@ -47,6 +47,38 @@ pub fn called_alone(errors: &impl Print, words: usize, usage: &[u8]) -> bool
     false
 }
 
+// Runs a program that is called without an argument, and says on standard error how it is called where it has one, and what it could not do.
+// No clause says what it prints: std says of no output what it holds.
+pub fn run_alone<Work: FnOnce() -> Result<(), Failure>>(
+    rt: &(impl Env + Eprint),
+    errors: &impl Print,
+    usage: &[u8],
+    work: Work,
+)
+    requires { Work.IsAlwaysCallable work }
+{
+    if !called_alone(errors, word_count(rt), usage) {
+        return;
+    }
+    if let Err(failure) = work() {
+        let _ = eprintln!(rt; "{failure}");
+    }
+}
+
+// Prints the text that stands at the front of out, where it has been written there.
+pub fn print_front<E: Drop>(
+    rt: &impl Print,
+    written: Result<usize, E>,
+    out: &[u8],
+) -> io::Result<()>
+    requires { IfOk written (λ n. n ≤ length out.now) }
+{
+    match written {
+        Ok(n) => rt.write_all(&out[..n]),
+        Err(_) => Err(io::Error::other("the text is too long")),
+    }
+}
+
 // Reads until buf is full or the input ends, and answers how many bytes. Where it is known what the reader gives, they are that, from its front, and all of it where buf has room left.
 // A failed read is answered as the reader's own error, and leaves buf its length; no other error comes.
 pub fn read_input<R: Read>(reader: &mut R, buf: &mut [u8]) -> io::Result<usize>
@@ -55,6 +87,7 @@ pub fn read_input<R: Read>(reader: &mut R, buf: &mut [u8]) -> io::Result<usize>
     ensures bytes { IfOk result (λ n. Consumes (R.remaining reader.old) (R.remaining reader.new) (take n buf.new)) }
     ensures whole { IfOk result (λ n. n < length buf.new → IsAtEnd (R.remaining reader.new)) }
 {
+    // The count stays by hand: the promise of `read_input` is on the lent slice, and std's readers that end at the input's end fill a Vec.
     let mut at = 0;
     while at < buf.len() {
         let n = reader.read(&mut buf[at..])?;

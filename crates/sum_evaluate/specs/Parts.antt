@@ -1,7 +1,6 @@
--- What the evaluator's parts promise: where such a part stands at a place, its value, and the place behind it.
+-- What the evaluator's parts promise: where such a part stands at the front of a text, its value, and the text behind it.
 -- Definitions only.
-use Rattle.std.specs.Prelude.{◌≡◌, Bool, true, false, List, [], ◌∷◌, ◌++◌, ◌+◌, ℕ, zero, suc, ◌-◌, ◌≤◌, min, length, drop, pos, neg_ℤ}
-use Rattle.sum_spec.specs.declared.Value.{Value}
+use Rattle.std.specs.Prelude.{◌≡◌, Bool, true, false, List, [], ◌∷◌, ◌++◌, ◌+◌, ℕ, zero, suc, ◌≤◌, min, length, ℤ, pos, neg_ℤ, Option}
 use Rattle.sum_spec.specs.Sums.{sum_depth, Digit, digits_text, Sum, Product, Factor, sum_value, product_value, factor_value, decimal_from, kept, reads}
 use Rattle.sum_spec.specs.Reading.{open_around, open_before, open_left, Token, digit, plus_sign, minus_sign, star, slash, opens, closes, other, token_of, Around, Before, first, Left, begin, minus_then, close_factor, closed_sum, due, behind, read_from}
 use Rattle.sum_value.specs.Worth.{negations}
@@ -11,7 +10,7 @@ abbrev pub most_number : ℕ
 most_number = 2147483649
 
 -- a number behind minus signs
-abbrev pub numeral_value : ℕ → ℕ → Value
+abbrev pub numeral_value : ℕ → ℕ → Option ℤ
 numeral_value zero n = kept (pos n)
 numeral_value (suc k) n = negations k (kept (neg_ℤ (pos n)))
 
@@ -76,42 +75,37 @@ ends_product s = ends is_factor_sign s
 abbrev pub ends_sum : List ℕ → Bool
 ends_sum s = ends is_term_sign s
 
--- ---- what stands from `at` to `end`
+-- ---- what stands at the front of a text, and the rest behind it
 -- digits, of the number n
-pub record NumeralTo (text : List ℕ) (at n end : ℕ) : Type 0 where
-  pub from : at ≤ end
-  pub to : end ≤ length text
+pub record NumeralTo (text : List ℕ) (n : ℕ) (rest : List ℕ) : Type 0 where
+  pub within : length rest ≤ length text
   pub number : List Digit
-  pub text_is : drop at text ≡ digits_text number ++ drop end text
+  pub text_is : text ≡ digits_text number ++ rest
   pub value_is : n ≡ min (decimal_from 0 number) most_number
 
--- minus signs
+-- n minus signs
 abbrev pub signs_then : ℕ → Left → Left
 signs_then zero k = k
 signs_then (suc n) k = minus_then (signs_then n k)
 
-pub record SignsTo (text : List ℕ) (at end : ℕ) : Type 0 where
-  pub from : at ≤ end
-  pub to : end ≤ length text
-  pub stands : (k : Left) → read_from (due k) (drop at text) ≡ read_from (due (signs_then (end - at) k)) (drop end text)
+pub record SignsTo (text : List ℕ) (n : ℕ) (rest : List ℕ) : Type 0 where
+  pub within : n + length rest ≡ length text
+  pub stands : (k : Left) → read_from (due k) text ≡ read_from (due (signs_then n k)) rest
 
 -- a factor of a text that reads as t, its value v; t is no deeper than the brackets that are open and those for which there is room
-pub record FactorTo (text : List ℕ) (room at : ℕ) (v : Value) (end : ℕ) : Type 0 where
-  pub from : at ≤ end
-  pub to : end ≤ length text
-  pub stands : (k : Left) (t : Sum) → sum_depth t ≤ open_left k + room → read_from (due k) (drop at text) ≡ reads t
-      → (f : Factor) × (v ≡ factor_value f) × (read_from (behind (close_factor k f)) (drop end text) ≡ reads t)
+pub record FactorTo (text : List ℕ) (room : ℕ) (v : Option ℤ) (rest : List ℕ) : Type 0 where
+  pub within : length rest ≤ length text
+  pub stands : (k : Left) (t : Sum) → sum_depth t ≤ open_left k + room → read_from (due k) text ≡ reads t
+      → (f : Factor) × (v ≡ factor_value f) × (read_from (behind (close_factor k f)) rest ≡ reads t)
 
 -- a product
-pub record ProductTo (text : List ℕ) (room at : ℕ) (v : Value) (end : ℕ) : Type 0 where
-  pub from : at ≤ end
-  pub to : end ≤ length text
-  pub stands : (b : Before) (t : Sum) → sum_depth t ≤ open_before b + room → read_from (due (begin b)) (drop at text) ≡ reads t
-      → (p : Product) × (v ≡ product_value p) × (read_from (behind (record { before = b; done = p })) (drop end text) ≡ reads t)
+pub record ProductTo (text : List ℕ) (room : ℕ) (v : Option ℤ) (rest : List ℕ) : Type 0 where
+  pub within : length rest ≤ length text
+  pub stands : (b : Before) (t : Sum) → sum_depth t ≤ open_before b + room → read_from (due (begin b)) text ≡ reads t
+      → (p : Product) × (v ≡ product_value p) × (read_from (behind (record { before = b; done = p })) rest ≡ reads t)
 
 -- a sum
-pub record SumTo (text : List ℕ) (room at : ℕ) (v : Value) (end : ℕ) : Type 0 where
-  pub from : at ≤ end
-  pub to : end ≤ length text
-  pub stands : (a : Around) (t : Sum) → sum_depth t ≤ open_around a + room → read_from (due (begin (first a))) (drop at text) ≡ reads t
-      → (s : Sum) × (v ≡ sum_value s) × (read_from (behind (closed_sum a s)) (drop end text) ≡ reads t)
+pub record SumTo (text : List ℕ) (room : ℕ) (v : Option ℤ) (rest : List ℕ) : Type 0 where
+  pub within : length rest ≤ length text
+  pub stands : (a : Around) (t : Sum) → sum_depth t ≤ open_around a + room → read_from (due (begin (first a))) text ≡ reads t
+      → (s : Sum) × (v ≡ sum_value s) × (read_from (behind (closed_sum a s)) rest ≡ reads t)

@@ -1,229 +1,149 @@
 // The evaluator of sums (REFERENCE 12): sum, product and factor call each other, and the remaining text falls. `room` is how many brackets
 // may still be opened: no text makes the calls nest deeper. A row of minus signs, the digits of a number, the terms of a sum and the
-// factors of a product are loops.
+// factors of a product are loops. Each part is read from the front of a text, and answers its value and the text behind it.
 #![tactic(auto)]
 
-ghost use Rattle.std.specs.Prelude.{◌≡◌, true, ◌+◌, ◌*◌, ◌-◌, ◌≤◌, ◌<◌, min, length, drop};
-ghost use Rattle.sum_spec.specs.Sums.{answer_of_value};
+ghost use Rattle.std.specs.Prelude.{◌≡◌, true, ◌+◌, ◌*◌, ◌≤◌, ◌<◌, min};
 ghost use Rattle.sum_spec.specs.Reading.{answer_of};
 ghost use Rattle.sum_evaluate.specs.Parts.{most_number, numeral_value, NumeralTo, SignsTo, FactorTo, ProductTo, SumTo, ends_digits, ends_signs, ends_product, ends_sum};
 
-use sum_shape::Shape;
-use sum_spec::{Answer, Value};
+use sum_spec::SumError;
 
-// A part's value, and the place behind the part.
-#[derive(Clone, Copy)]
-pub struct Part {
-    pub value: Value,
-    pub at: usize,
-}
+// No number in reach is larger; larger ones are taken for it.
+const MOST_NUMBER: u64 = 2147483649;
 
-// A number, at most 2,147,483,649 for all that are larger, and the place behind its digits.
-#[derive(Clone, Copy)]
-pub struct Numeral {
-    pub n: u64,
-    pub at: usize,
-}
+// A text that is deeper has no value.
+const MOST_DEPTH: usize = 16;
 
 // One digit more.
-fn push_digit(n: u64, d: u64) -> u64
-    requires n_le_most_number { n ≤ most_number }
-    requires d_bound { d < 10 }
-    ensures { result ≡ min (n * 10 + d) most_number }
+fn push_digit(number: u64, digit: u8) -> u64
+    requires number_le_most_number { number ≤ most_number }
+    requires digit_bound { digit < 10 }
+    ensures { result ≡ min (number * 10 + digit) most_number }
 {
-    let m = n * 10 + d;
-    if m < 2147483649 { m } else { 2147483649 }
+    (number * 10 + u64::from(digit)).min(MOST_NUMBER)
 }
 
-fn wide(c: u8) -> u64
-    ensures { result ≡ c }
+// The number of the digits at the front.
+fn numeral(text: &[u8]) -> (u64, &[u8])
+    ensures numeral_to { NumeralTo text.now result.0 result.1.now }
+    ensures ends { ends_digits result.1.now ≡ true }
 {
-    c as u64
-}
-
-// The digits from `at` on.
-fn numeral_at(text: &[u8], at: usize) -> Numeral
-    requires { at ≤ length text.now }
-    ensures numeral_to { NumeralTo text.now at result.n result.at }
-    ensures text_value { ends_digits (drop result.at text.now) ≡ true }
-{
-    let mut n = 0u64;
-    let mut i = at;
-    while i < text.len() {
-        let c = text[i];
-        if c < b'0' {
-            return Numeral { n: n, at: i };
-        }
-        if c > b'9' {
-            return Numeral { n: n, at: i };
-        }
-        n = push_digit(n, wide(c - b'0'));
-        i += 1;
+    let mut number = 0;
+    let mut rest = text;
+    while let [digit @ b'0'..=b'9', after @ ..] = rest {
+        number = push_digit(number, *digit - b'0');
+        rest = after;
     }
-    Numeral { n: n, at: i }
+    (number, rest)
 }
 
-// The place behind the minus signs from `at` on.
-fn behind_signs(text: &[u8], at: usize) -> usize
-    requires { at ≤ length text.now }
-    ensures signs_to { SignsTo text.now at result }
-    ensures text_value { ends_signs (drop result text.now) ≡ true }
+// How many minus signs stand at the front.
+fn minus_signs(text: &[u8]) -> (usize, &[u8])
+    ensures signs_to { SignsTo text.now result.0 result.1.now }
+    ensures ends { ends_signs result.1.now ≡ true }
 {
-    let mut i = at;
-    while i < text.len() {
-        if text[i] != b'-' {
-            return i;
-        }
-        i += 1;
+    let mut count = 0;
+    let mut rest = text;
+    while let [b'-', after @ ..] = rest {
+        count += 1;
+        rest = after;
     }
-    i
+    (count, rest)
 }
 
 // The value of a number behind minus signs: the last of them is taken with it.
-fn signed(n: u64, signs: usize) -> Value
-    requires { n ≤ most_number }
-    ensures { result ≡ numeral_value signs n }
+fn signed(number: u64, signs: usize) -> Option<i32>
+    requires { number ≤ most_number }
+    ensures { result ≡ numeral_value signs number }
 {
-    if signs == 0 {
-        sum_value::keep(n as i64)
-    } else {
-        sum_value::negate_times(sum_value::keep(0 - (n as i64)), signs - 1)
+    match signs.checked_sub(1) {
+        None => sum_value::keep(number as i64),
+        Some(others) => sum_value::negate_times(sum_value::keep(-(number as i64)), others),
     }
 }
 
 #[cycle(factor_product_sum)]
-fn factor(text: &[u8], at: usize, room: u8) -> Part
-    requires { at ≤ length text.now }
-    ensures { FactorTo text.now room at result.value result.at }
+fn factor(text: &[u8], room: usize) -> (Option<i32>, &[u8])
+    ensures { FactorTo text.now room result.0 result.1.now }
 {
-    let first = behind_signs(text, at);
-    let signs = first - at;
-    if first < text.len() {
-        if text[first] == b'(' {
+    let (signs, rest) = minus_signs(text);
+    match rest {
+        [] => (None, rest),
+        [b'(', inside @ ..] => {
             if room == 0 {
-                return Part {
-                    value: Value::Outside,
-                    at: first,
-                };
+                return (None, rest);
             }
-            let inner = sum(text, first + 1, room - 1);
-            let w = inner.value;
-            let v = sum_value::negate_times(w, signs);
-            let end = inner.at;
-            if end < text.len() {
-                Part {
-                    value: v,
-                    at: end + 1,
-                }
-            } else {
-                Part { value: v, at: end }
+            let (inner, behind) = sum(inside, room - 1);
+            let value = sum_value::negate_times(inner, signs);
+            match behind {
+                [] => (value, behind),
+                [_, after @ ..] => (value, after),
             }
-        } else {
-            let number = numeral_at(text, first);
-            let v = signed(number.n, signs);
-            let end = number.at;
-            Part { value: v, at: end }
         }
-    } else {
-        Part {
-            value: Value::Outside,
-            at: first,
+        _ => {
+            let (number, after) = numeral(rest);
+            (signed(number, signs), after)
         }
     }
 }
 
 #[cycle(factor_product_sum)]
-fn product(text: &[u8], at: usize, room: u8) -> Part
-    requires { at ≤ length text.now }
-    ensures product_to { ProductTo text.now room at result.value result.at }
-    ensures text_value { ends_product (drop result.at text.now) ≡ true }
+fn product(text: &[u8], room: usize) -> (Option<i32>, &[u8])
+    ensures product_to { ProductTo text.now room result.0 result.1.now }
+    ensures ends { ends_product result.1.now ≡ true }
 {
-    let first = factor(text, at, room);
-    let mut value = first.value;
-    let mut i = first.at;
-    while i < text.len() {
-        let c = text[i];
-        if c == b'*' {
-            let next = factor(text, i + 1, room);
-            let w = next.value;
-            value = sum_value::multiply(value, w);
-            i = next.at;
-        } else if c == b'/' {
-            let next = factor(text, i + 1, room);
-            let w = next.value;
-            value = sum_value::divide(value, w);
-            i = next.at;
-        } else {
-            return Part {
-                value: value,
-                at: i,
-            };
+    let (mut value, mut rest) = factor(text, room);
+    loop {
+        match rest {
+            [b'*', after @ ..] => {
+                let (next, behind) = factor(after, room);
+                value = sum_value::multiply(value, next);
+                rest = behind;
+            }
+            [b'/', after @ ..] => {
+                let (next, behind) = factor(after, room);
+                value = sum_value::divide(value, next);
+                rest = behind;
+            }
+            _ => return (value, rest),
         }
-    }
-    Part {
-        value: value,
-        at: i,
     }
 }
 
 #[cycle(factor_product_sum)]
-fn sum(text: &[u8], at: usize, room: u8) -> Part
-    requires { at ≤ length text.now }
-    ensures sum_to { SumTo text.now room at result.value result.at }
-    ensures text_value { ends_sum (drop result.at text.now) ≡ true }
+fn sum(text: &[u8], room: usize) -> (Option<i32>, &[u8])
+    ensures sum_to { SumTo text.now room result.0 result.1.now }
+    ensures ends { ends_sum result.1.now ≡ true }
 {
-    let first = product(text, at, room);
-    let mut value = first.value;
-    let mut i = first.at;
-    while i < text.len() {
-        let c = text[i];
-        if c == b'+' {
-            let next = product(text, i + 1, room);
-            let w = next.value;
-            value = sum_value::add(value, w);
-            i = next.at;
-        } else if c == b'-' {
-            let next = product(text, i + 1, room);
-            let w = next.value;
-            value = sum_value::subtract(value, w);
-            i = next.at;
-        } else {
-            return Part {
-                value: value,
-                at: i,
-            };
+    let (mut value, mut rest) = product(text, room);
+    loop {
+        match rest {
+            [b'+', after @ ..] => {
+                let (next, behind) = product(after, room);
+                value = sum_value::add(value, next);
+                rest = behind;
+            }
+            [b'-', after @ ..] => {
+                let (next, behind) = product(after, room);
+                value = sum_value::subtract(value, next);
+                rest = behind;
+            }
+            _ => return (value, rest),
         }
     }
-    Part {
-        value: value,
-        at: i,
-    }
 }
 
-fn worth_of(v: Value) -> Answer
-    ensures { result ≡ answer_of_value v }
-{
-    match v {
-        Value::Within(x) => Answer::Worth(x),
-        Value::Outside => Answer::OutOfRange,
-    }
-}
-
-// The value of a text, or 16, not such a text; 17, more than 16 brackets deep; 18, a value outside i32 or a zero divisor.
-pub fn evaluate(text: &[u8]) -> Answer
+/// The value of a text, or why it has none: it is asked in the order of `SumError`'s numbers.
+pub fn evaluate(text: &[u8]) -> Result<i32, SumError>
     ensures { result ≡ answer_of text.now }
 {
-    let found = sum_shape::shape_of(text);
-    match found {
-        Shape::Deep(depth) => {
-            if depth <= 16 {
-                let whole = sum(text, 0, 16);
-                let v = whole.value;
-                worth_of(v)
-            } else {
-                Answer::TooDeep
-            }
-        }
-        Shape::NoText => Answer::NoText,
+    let Some(depth) = sum_shape::shape_of(text) else {
+        return Err(SumError::NoText);
+    };
+    if depth > MOST_DEPTH {
+        return Err(SumError::TooDeep);
     }
+    let (value, _) = sum(text, MOST_DEPTH);
+    value.ok_or(SumError::OutOfRange)
 }

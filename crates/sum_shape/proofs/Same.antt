@@ -7,6 +7,7 @@ use Prim.Native.Nat.{ℕ, ◌+◌, ◌-◌, ◌≤◌, max}
 use native.Mathlib.Omega.{arith}
 use lib.Dec.{eqb}
 use borrow.Author.Tests.{ne_eqb}
+use Rattle.std.specs.Prelude.{Option, Some, None}
 use Rattle.mrc_compiler.specs.Choose.{pick}
 use Rattle.sum_spec.specs.Sums.{reads, Digit, Sum, Product, Factor, digits, minus, bracket, sum_depth, product_depth, factor_depth}
 use Rattle.sum_spec.specs.Reading.{open_around, open_before, open_left, Token, digit, plus_sign, minus_sign, star, slash, opens, closes, other, token_of, Around, whole, in_bracket, Before, first, plus_then, less_then, Left, begin, times_then, over_then, minus_then, Closed, close_factor, around_of, sum_so_far, Place, due, within, behind, stuck, close_sum, close_text, after_factor, where_due, in_digits, next, end, end_behind, read_from, start, reading}
@@ -15,8 +16,6 @@ use Rattle.sum_shape.specs.declared.Kind.TheVariants as K
 use Rattle.sum_shape.specs.declared.Stand.{Stand}
 use Rattle.sum_shape.specs.declared.Stand.TheVariants as S
 use Rattle.sum_shape.specs.declared.Pass.{Pass}
-use Rattle.sum_shape.specs.declared.Shape.{Shape}
-use Rattle.sum_shape.specs.declared.Shape.TheVariants as H
 use Rattle.sum_shape.specs.Pass.{pass_by, shape_by, kind_of, shape_of, pass_at, stuck_pass, start_pass, pass_after, pass_due, pass_digits, pass_next, pass_over, pass_end}
 
 -- ---- brackets open, and brackets open at most
@@ -136,23 +135,23 @@ step_same (behind c) t = after_same c t
 step_same stuck t = refl
 
 -- ---- the end
-text_end : (a : Around) (s : Sum) (d m : ℕ) (h : Shape) → open_around a ≡ d → max (most_a a) (open_around a + sum_depth s) ≡ m
-    → h ≡ H.Deep m → pick (eqb d 0) h H.NoText ≡ shape_of (close_text a s)
-text_end whole s d m h e f g = rw (← e) (g ∙ ap H.Deep (omega arith))
+text_end : (a : Around) (s : Sum) (d m : ℕ) (h : Option ℕ) → open_around a ≡ d → max (most_a a) (open_around a + sum_depth s) ≡ m
+    → h ≡ Some m → pick (eqb d 0) h None ≡ shape_of (close_text a s)
+text_end whole s d m h e f g = rw (← e) (g ∙ ap Some (omega arith))
 text_end (in_bracket k) s d m h e f g = rw (← e, ne_eqb (open_left k + 1) 0 (λ z. omega arith))
 
 end_same : (q : Place) → pass_end (pass_of q) ≡ shape_of (end q)
 end_same (due k) = both_ways (eqb (open_left k) 0)
   where
-    both_ways : (b : Bool) → pick b H.NoText H.NoText ≡ H.NoText
+    both_ways : (b : Bool) → pick {A = Option ℕ} b None None ≡ None
     both_ways true = refl
     both_ways false = refl
 end_same (within k d ds) =
     rw (← done_open k d ds, ← done_most k d ds) (ended (close_factor k (digits d ds)))
   where
-    ended : (c : Closed) → pick (eqb (open_before c.before) 0) (H.Deep (most_c c)) H.NoText ≡ shape_of (end_behind c)
-    ended c = text_end (around_of c.before) (sum_so_far c.before c.done) (open_before c.before) (most_c c) (H.Deep (most_c c)) (product_open c.before) (product_most c.before c.done) refl
-end_same (behind c) = text_end (around_of c.before) (sum_so_far c.before c.done) (open_before c.before) (most_c c) (H.Deep (most_c c)) (product_open c.before) (product_most c.before c.done) refl
+    ended : (c : Closed) → pick (eqb (open_before c.before) 0) (Some (most_c c)) None ≡ shape_of (end_behind c)
+    ended c = text_end (around_of c.before) (sum_so_far c.before c.done) (open_before c.before) (most_c c) (Some (most_c c)) (product_open c.before) (product_most c.before c.done) refl
+end_same (behind c) = text_end (around_of c.before) (sum_so_far c.before c.done) (open_before c.before) (most_c c) (Some (most_c c)) (product_open c.before) (product_most c.before c.done) refl
 end_same stuck = refl
 
 -- the deepest so far is at most the depth
@@ -194,17 +193,17 @@ by_grows S.Digits d m k = digits_grows d m k
 by_grows S.Behind d m k = after_grows d m k
 by_grows S.Stuck d m k = lost
 
-stuck_over : (s : List ℕ) → pass_end (pass_over stuck_pass s) ≡ H.NoText
+stuck_over : (s : List ℕ) → pass_end (pass_over stuck_pass s) ≡ None
 stuck_over [] = refl
 stuck_over (c ∷ s) = stuck_over s
 
-no_shape : {A : Type 0} {n : ℕ} → H.NoText ≡ H.Deep n → A
+no_shape : {A : Type 0} {n : ℕ} → None ≡ Some n → A
 no_shape e = let z : ◌≡◌ {A = ℕ} 0 1 = cc in absurd (omega arith)
 
-never_falls : (s : List ℕ) (p : Pass) (n : ℕ) → pass_end (pass_over p s) ≡ H.Deep n → p.deepest ≤ n
+never_falls : (s : List ℕ) (p : Pass) (n : ℕ) → pass_end (pass_over p s) ≡ Some n → p.deepest ≤ n
 never_falls [] p n e = go (eqb p.depth 0) p.stand e
   where
-    go : (b : Bool) (t : Stand) → pick b (shape_by t p.deepest) H.NoText ≡ H.Deep n → p.deepest ≤ n
+    go : (b : Bool) (t : Stand) → pick b (shape_by t p.deepest) None ≡ Some n → p.deepest ≤ n
     go true S.Due e = no_shape e
     go true S.Digits e = let z : p.deepest ≡ n = cc in omega arith
     go true S.Behind e = let z : p.deepest ≡ n = cc in omega arith
@@ -212,7 +211,7 @@ never_falls [] p n e = go (eqb p.depth 0) p.stand e
     go false t e = no_shape e
 never_falls (c ∷ s) p n e = go (pass_next p (kind_of (token_of c))) (by_grows p.stand p.depth p.deepest (kind_of (token_of c))) e (never_falls s (pass_next p (kind_of (token_of c))) n e)
   where
-    go : (q : Pass) → Grows p.deepest q → pass_end (pass_over q s) ≡ H.Deep n → q.deepest ≤ n → p.deepest ≤ n
+    go : (q : Pass) → Grows p.deepest q → pass_end (pass_over q s) ≡ Some n → q.deepest ≤ n → p.deepest ≤ n
     go q (grows h) e i = omega arith
     go stuck_pass lost e i = no_shape (sym (stuck_over s) ∙ e)
 

@@ -1,6 +1,6 @@
 -- The syntax pass, as the code makes it: where it stands, how many brackets are open, and how many were at most.
 -- Definitions only.
-use Rattle.std.specs.Prelude.{ℕ, ◌+◌, ◌-◌, max, List, [], ◌∷◌, eqb}
+use Rattle.std.specs.Prelude.{ℕ, ◌+◌, ◌-◌, max, List, [], ◌∷◌, eqb, Option, Some, None}
 use Rattle.mrc_compiler.specs.Choose.{pick}
 use Rattle.sum_spec.specs.Sums.{sum_depth, Read, reads, no_text}
 use Rattle.sum_spec.specs.Reading.{Token, digit, plus_sign, minus_sign, star, slash, opens, closes, other, token_of}
@@ -9,12 +9,10 @@ use Rattle.sum_shape.specs.declared.Kind.TheVariants as K
 use Rattle.sum_shape.specs.declared.Stand.{Stand}
 use Rattle.sum_shape.specs.declared.Stand.TheVariants as S
 use Rattle.sum_shape.specs.declared.Pass.{Pass}
-use Rattle.sum_shape.specs.declared.Shape.{Shape}
-use Rattle.sum_shape.specs.declared.Shape.TheVariants as H
 
-abbrev pub shape_of : Read → Shape
-shape_of (reads s) = H.Deep (sum_depth s)
-shape_of no_text = H.NoText
+abbrev pub shape_of : Read → Option ℕ
+shape_of (reads s) = Some (sum_depth s)
+shape_of no_text = None
 
 abbrev pub kind_of : Token → Kind
 kind_of (digit d) = K.Digit
@@ -72,11 +70,11 @@ abbrev pub pass_over : Pass → List ℕ → Pass
 pass_over p [] = p
 pass_over p (c ∷ s) = pass_over (pass_next p (kind_of (token_of c))) s
 
-abbrev pub shape_by : Stand → ℕ → Shape
-shape_by S.Due deepest = H.NoText
-shape_by S.Digits deepest = H.Deep deepest
-shape_by S.Behind deepest = H.Deep deepest
-shape_by S.Stuck deepest = H.NoText
+abbrev pub shape_by : Stand → ℕ → Option ℕ
+shape_by S.Due deepest = None
+shape_by S.Digits deepest = Some deepest
+shape_by S.Behind deepest = Some deepest
+shape_by S.Stuck deepest = None
 
-abbrev pub pass_end : Pass → Shape
-pass_end p = pick (eqb p.depth 0) (shape_by p.stand p.deepest) H.NoText
+abbrev pub pass_end : Pass → Option ℕ
+pass_end p = pick (eqb p.depth 0) (shape_by p.stand p.deepest) None

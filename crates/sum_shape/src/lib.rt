@@ -6,8 +6,8 @@ ghost use Rattle.std.specs.Prelude.{◌≡◌, ◌+◌, ◌<◌, ◌^◌};
 ghost use Rattle.sum_spec.specs.Reading.{token_of, reading};
 ghost use Rattle.sum_shape.specs.Pass.{kind_of, shape_of, stuck_pass, pass_after, pass_due, pass_digits, pass_next, pass_end};
 
-// What a byte may be to the pass.
-#[derive(Clone, Copy)]
+// What a byte may be to the pass. `Other` is a kind as the others are: an `Option` round them is no plainer.
+#[derive(Clone, Copy, Debug, PartialEq, Eq)]
 pub enum Kind {
     Digit,
     Operator,
@@ -17,8 +17,9 @@ pub enum Kind {
     Other,
 }
 
-// Where the pass stands: a factor is due, in its digits, behind a factor, or no text begins so.
-#[derive(Clone, Copy)]
+// Where the pass stands: a factor is due, in its digits, behind a factor, or no text begins so. `Stuck` is a place as the others are, from which the pass
+// goes on to the end: an `Option` round them is no plainer.
+#[derive(Clone, Copy, Debug, PartialEq, Eq)]
 pub enum Stand {
     Due,
     Digits,
@@ -27,184 +28,125 @@ pub enum Stand {
 }
 
 // Where the pass stands, how many brackets are open, and how many were at most.
-#[derive(Clone, Copy)]
+#[derive(Clone, Copy, Debug, PartialEq, Eq)]
 pub struct Pass {
     pub stand: Stand,
     pub depth: usize,
     pub deepest: usize,
 }
 
-#[derive(Clone, Copy)]
-pub enum Shape {
-    Deep(usize),
-    NoText,
-}
-
 fn kind_of(c: u8) -> Kind
     ensures { result ≡ kind_of (token_of c) }
 {
-    if c == b'-' {
-        Kind::Minus
-    } else if c == b'(' {
-        Kind::Opens
-    } else if c == b')' {
-        Kind::Closes
-    } else if c == b'+' {
-        Kind::Operator
-    } else if c == b'*' {
-        Kind::Operator
-    } else if c == b'/' {
-        Kind::Operator
-    } else if c < b'0' {
-        Kind::Other
-    } else if c <= b'9' {
-        Kind::Digit
-    } else {
-        Kind::Other
+    match c {
+        b'0'..=b'9' => Kind::Digit,
+        b'+' | b'*' | b'/' => Kind::Operator,
+        b'-' => Kind::Minus,
+        b'(' => Kind::Opens,
+        b')' => Kind::Closes,
+        _ => Kind::Other,
     }
 }
 
-fn stuck() -> Pass
-    ensures { result ≡ stuck_pass }
-{
-    Pass {
-        stand: Stand::Stuck,
-        depth: 0,
-        deepest: 0,
-    }
-}
-
-// A byte behind a factor.
-fn after(depth: usize, deepest: usize, k: Kind) -> Pass
-    ensures { result ≡ pass_after depth deepest k }
-{
-    match k {
-        Kind::Digit => stuck(),
-        Kind::Operator => Pass {
-            stand: Stand::Due,
-            depth: depth,
-            deepest: deepest,
-        },
-        Kind::Minus => Pass {
-            stand: Stand::Due,
-            depth: depth,
-            deepest: deepest,
-        },
-        Kind::Opens => stuck(),
-        Kind::Closes => {
-            if depth == 0 {
-                stuck()
-            } else {
-                Pass {
-                    stand: Stand::Behind,
-                    depth: depth - 1,
-                    deepest: deepest,
-                }
-            }
-        }
-        Kind::Other => stuck(),
-    }
-}
-
-// A byte where a factor is due.
-fn due(depth: usize, deepest: usize, k: Kind) -> Pass
-    requires { depth + 1 < 2 ^ 64 }
-    ensures { result ≡ pass_due depth deepest k }
-{
-    match k {
-        Kind::Digit => Pass {
-            stand: Stand::Digits,
-            depth: depth,
-            deepest: deepest,
-        },
-        Kind::Operator => stuck(),
-        Kind::Minus => Pass {
-            stand: Stand::Due,
-            depth: depth,
-            deepest: deepest,
-        },
-        Kind::Opens => {
-            let inner = depth + 1;
-            if deepest < inner {
-                Pass {
-                    stand: Stand::Due,
-                    depth: inner,
-                    deepest: inner,
-                }
-            } else {
-                Pass {
-                    stand: Stand::Due,
-                    depth: inner,
-                    deepest: deepest,
-                }
-            }
-        }
-        Kind::Closes => stuck(),
-        Kind::Other => stuck(),
-    }
-}
-
-fn in_digits(depth: usize, deepest: usize, k: Kind) -> Pass
-    ensures { result ≡ pass_digits depth deepest k }
-{
-    match k {
-        Kind::Digit => Pass {
-            stand: Stand::Digits,
-            depth: depth,
-            deepest: deepest,
-        },
-        Kind::Operator => after(depth, deepest, k),
-        Kind::Minus => after(depth, deepest, k),
-        Kind::Opens => after(depth, deepest, k),
-        Kind::Closes => after(depth, deepest, k),
-        Kind::Other => after(depth, deepest, k),
-    }
-}
-
-fn step(pass: Pass, c: u8) -> Pass
-    requires { pass.depth + 1 < 2 ^ 64 }
-    ensures { result ≡ pass_next pass (kind_of (token_of c)) }
-{
-    let k = kind_of(c);
-    let stand = pass.stand;
-    match stand {
-        Stand::Due => due(pass.depth, pass.deepest, k),
-        Stand::Digits => in_digits(pass.depth, pass.deepest, k),
-        Stand::Behind => after(pass.depth, pass.deepest, k),
-        Stand::Stuck => stuck(),
-    }
-}
-
-fn finish(pass: Pass) -> Shape
-    ensures { result ≡ pass_end pass }
-{
-    if pass.depth == 0 {
-        let stand = pass.stand;
-        match stand {
-            Stand::Due => Shape::NoText,
-            Stand::Digits => Shape::Deep(pass.deepest),
-            Stand::Behind => Shape::Deep(pass.deepest),
-            Stand::Stuck => Shape::NoText,
-        }
-    } else {
-        Shape::NoText
-    }
-}
-
-// Whether the text is a sum, and how many brackets deep.
-pub fn shape_of(text: &[u8]) -> Shape
-    ensures { result ≡ shape_of (reading text.now) }
-{
-    let mut pass = Pass {
+impl Pass {
+    const START: Pass = Pass {
         stand: Stand::Due,
         depth: 0,
         deepest: 0,
     };
-    let mut i = 0;
-    while i < text.len() {
-        let c = text[i];
-        pass = step(pass, c);
-        i += 1;
+
+    const STUCK: Pass = Pass {
+        stand: Stand::Stuck,
+        depth: 0,
+        deepest: 0,
+    };
+
+    // A byte behind a factor.
+    fn after(self, kind: Kind) -> Pass
+        ensures { result ≡ pass_after self.depth self.deepest kind }
+    {
+        match kind {
+            Kind::Operator | Kind::Minus => Pass {
+                stand: Stand::Due,
+                ..self
+            },
+            Kind::Closes if self.depth != 0 => Pass {
+                stand: Stand::Behind,
+                depth: self.depth - 1,
+                ..self
+            },
+            _ => Pass::STUCK,
+        }
     }
-    finish(pass)
+
+    // A byte where a factor is due.
+    fn due(self, kind: Kind) -> Pass
+        requires { self.depth + 1 < 2 ^ 64 }
+        ensures { result ≡ pass_due self.depth self.deepest kind }
+    {
+        match kind {
+            Kind::Digit => Pass {
+                stand: Stand::Digits,
+                ..self
+            },
+            Kind::Minus => Pass {
+                stand: Stand::Due,
+                ..self
+            },
+            Kind::Opens => {
+                let depth = self.depth + 1;
+                Pass {
+                    stand: Stand::Due,
+                    depth,
+                    deepest: self.deepest.max(depth),
+                }
+            }
+            _ => Pass::STUCK,
+        }
+    }
+
+    fn in_digits(self, kind: Kind) -> Pass
+        ensures { result ≡ pass_digits self.depth self.deepest kind }
+    {
+        match kind {
+            Kind::Digit => Pass {
+                stand: Stand::Digits,
+                ..self
+            },
+            _ => self.after(kind),
+        }
+    }
+
+    fn step(self, c: u8) -> Pass
+        requires { self.depth + 1 < 2 ^ 64 }
+        ensures { result ≡ pass_next self (kind_of (token_of c)) }
+    {
+        let kind = kind_of(c);
+        match self.stand {
+            Stand::Due => self.due(kind),
+            Stand::Digits => self.in_digits(kind),
+            Stand::Behind => self.after(kind),
+            Stand::Stuck => Pass::STUCK,
+        }
+    }
+
+    fn finish(self) -> Option<usize>
+        ensures { result ≡ pass_end self }
+    {
+        match self.stand {
+            Stand::Digits | Stand::Behind if self.depth == 0 => Some(self.deepest),
+            _ => None,
+        }
+    }
+}
+
+// How many brackets deep the text is, where it is a sum.
+pub fn shape_of(text: &[u8]) -> Option<usize>
+    ensures { result ≡ shape_of (reading text.now) }
+{
+    let mut pass = Pass::START;
+    for &c in text {
+        pass = pass.step(c);
+    }
+    pass.finish()
 }

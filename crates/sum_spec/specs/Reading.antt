@@ -1,9 +1,9 @@
 -- The reading of a text, from left to right. `Left` is what stands to the left of a factor that is due: each unfinished product,
 -- sum and bracket around it. That this finds the reading where there is one, and that there is only one, is proved (proofs/Exact).
 -- Definitions only.
-use Rattle.std.specs.Prelude.{ℕ, ◌+◌, ◌-◌, Bool, List, [], ◌∷◌, ◌++◌, leb, eqb, get_or}
+use Rattle.std.specs.Prelude.{ℕ, ◌+◌, ◌-◌, Bool, List, [], ◌∷◌, ◌++◌, leb, eqb, get_or, ℤ, Result}
 use Rattle.mrc_compiler.specs.Choose.{pick, both}
-use Rattle.sum_spec.specs.declared.Answer.{Answer}
+use Rattle.sum_spec.specs.declared.SumError.{SumError}
 use Rattle.sum_spec.specs.Sums.{Digit, d0, d1, d2, d3, d4, d5, d6, d7, d8, d9, Sum, product, plus, less, Product, factor, times, over, Factor, digits, minus, bracket, Read, reads, no_text, answer_of_read}
 
 -- ---- the bytes of a text
@@ -164,5 +164,5 @@ unfoldable pub reading : List ℕ → Read
 reading s = read_from start s
 
 -- the answer to a text
-unfoldable pub answer_of : List ℕ → Answer
+unfoldable pub answer_of : List ℕ → Result ℤ SumError
 answer_of s = answer_of_read (reading s)

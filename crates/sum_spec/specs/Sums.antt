@@ -2,13 +2,11 @@
 -- A reading is a tree. A sum is made of products and a product of factors, equals from the left; a factor is digits, a minus and
 -- a factor, or a bracketed sum.
 -- Definitions only.
-use Rattle.std.specs.Prelude.{ℕ, ◌+◌, ◌*◌, max, Bool, true, false, List, [], ◌∷◌, ◌++◌, leb, ℤ, pos, negsuc, neg_ℤ, ◌+ℤ◌, ◌-ℤ◌, ◌*ℤ◌}
+use Rattle.std.specs.Prelude.{ℕ, ◌+◌, ◌*◌, max, Bool, List, [], ◌∷◌, ◌++◌, leb, ℤ, pos, negsuc, neg_ℤ, ◌+ℤ◌, ◌-ℤ◌, ◌*ℤ◌, Option, Some, None, Result, Ok, Err}
 use Rattle.std.specs.Int.Signed.{le_z, quot_z}
 use Rattle.mrc_compiler.specs.Choose.{pick, both}
-use Rattle.sum_spec.specs.declared.Value.{Value}
-use Rattle.sum_spec.specs.declared.Value.TheVariants as W
-use Rattle.sum_spec.specs.declared.Answer.{Answer}
-use Rattle.sum_spec.specs.declared.Answer.TheVariants as A
+use Rattle.sum_spec.specs.declared.SumError.{SumError}
+use Rattle.sum_spec.specs.declared.SumError.TheVariants as E
 
 -- ---- the grammar
 pub data Digit : Type 0 where
@@ -91,8 +89,8 @@ abbrev pub is_i_32 : ℤ → Bool
 is_i_32 z = both (le_z (negsuc 2147483647) z) (le_z z (pos 2147483647))
 
 -- every intermediate value is an i32
-abbrev pub kept : ℤ → Value
-kept z = pick (is_i_32 z) (W.Within z) W.Outside
+abbrev pub kept : ℤ → Option ℤ
+kept z = pick (is_i_32 z) (Some z) None
 
 -- a decimal number, read on from n
 abbrev pub decimal_from : ℕ → List Digit → ℕ
@@ -102,54 +100,54 @@ decimal_from n (d ∷ ds) = decimal_from (n * 10 + digit_number d) ds
 abbrev pub decimal : Digit → List Digit → ℕ
 decimal d ds = decimal_from (digit_number d) ds
 
-abbrev pub negated : Value → Value
-negated (W.Within x) = kept (neg_ℤ x)
-negated W.Outside = W.Outside
+abbrev pub negated : Option ℤ → Option ℤ
+negated (Some x) = kept (neg_ℤ x)
+negated None = None
 
-abbrev pub sum_of : Value → Value → Value
-sum_of (W.Within x) (W.Within y) = kept (x +ℤ y)
-sum_of (W.Within x) W.Outside = W.Outside
-sum_of W.Outside w = W.Outside
+abbrev pub sum_of : Option ℤ → Option ℤ → Option ℤ
+sum_of (Some x) (Some y) = kept (x +ℤ y)
+sum_of (Some x) None = None
+sum_of None w = None
 
-abbrev pub difference_of : Value → Value → Value
-difference_of (W.Within x) (W.Within y) = kept (x -ℤ y)
-difference_of (W.Within x) W.Outside = W.Outside
-difference_of W.Outside w = W.Outside
+abbrev pub difference_of : Option ℤ → Option ℤ → Option ℤ
+difference_of (Some x) (Some y) = kept (x -ℤ y)
+difference_of (Some x) None = None
+difference_of None w = None
 
-abbrev pub product_of : Value → Value → Value
-product_of (W.Within x) (W.Within y) = kept (x *ℤ y)
-product_of (W.Within x) W.Outside = W.Outside
-product_of W.Outside w = W.Outside
+abbrev pub product_of : Option ℤ → Option ℤ → Option ℤ
+product_of (Some x) (Some y) = kept (x *ℤ y)
+product_of (Some x) None = None
+product_of None w = None
 
 -- cut toward zero
-abbrev pub quotient : ℤ → ℤ → Value
-quotient x (pos ℕ.zero) = W.Outside
+abbrev pub quotient : ℤ → ℤ → Option ℤ
+quotient x (pos ℕ.zero) = None
 quotient x (pos (ℕ.suc n)) = kept (quot_z x (pos (ℕ.suc n)))
 quotient x (negsuc n) = kept (quot_z x (negsuc n))
 
-abbrev pub quotient_of : Value → Value → Value
-quotient_of (W.Within x) (W.Within y) = quotient x y
-quotient_of (W.Within x) W.Outside = W.Outside
-quotient_of W.Outside w = W.Outside
+abbrev pub quotient_of : Option ℤ → Option ℤ → Option ℤ
+quotient_of (Some x) (Some y) = quotient x y
+quotient_of (Some x) None = None
+quotient_of None w = None
 
 -- the value of a minus and a factor that has the value v: a minus directly before digits is taken with them
-abbrev pub minus_of : Factor → Value → Value
+abbrev pub minus_of : Factor → Option ℤ → Option ℤ
 minus_of (digits d ds) v = kept (neg_ℤ (pos (decimal d ds)))
 minus_of (minus f) v = negated v
 minus_of (bracket s) v = negated v
 
 abbrev mutual
-  pub sum_value : Sum → Value
+  pub sum_value : Sum → Option ℤ
   sum_value (product p) = product_value p
   sum_value (plus s p) = sum_of (sum_value s) (product_value p)
   sum_value (less s p) = difference_of (sum_value s) (product_value p)
 
-  pub product_value : Product → Value
+  pub product_value : Product → Option ℤ
   product_value (factor f) = factor_value f
   product_value (times p f) = product_of (product_value p) (factor_value f)
   product_value (over p f) = quotient_of (product_value p) (factor_value f)
 
-  pub factor_value : Factor → Value
+  pub factor_value : Factor → Option ℤ
   factor_value (digits d ds) = kept (pos (decimal d ds))
   factor_value (minus f) = minus_of f (factor_value f)
   factor_value (bracket s) = sum_value s
@@ -159,21 +157,24 @@ pub data Read : Type 0 where
   reads : Sum → Read
   no_text : Read
 
-abbrev pub answer_of_value : Value → Answer
-answer_of_value (W.Within x) = A.Worth x
-answer_of_value W.Outside = A.OutOfRange
+abbrev pub answer_of_value : Option ℤ → Result ℤ SumError
+answer_of_value (Some x) = Ok x
+answer_of_value None = Err E.OutOfRange
 
-abbrev pub answer_of_read : Read → Answer
-answer_of_read (reads s) = pick (leb (sum_depth s) most_depth) (answer_of_value (sum_value s)) A.TooDeep
-answer_of_read no_text = A.NoText
+abbrev pub answer_of_read : Read → Result ℤ SumError
+answer_of_read (reads s) = pick (leb (sum_depth s) most_depth) (answer_of_value (sum_value s)) (Err E.TooDeep)
+answer_of_read no_text = Err E.NoText
 
 -- document 02's numbers
+abbrev pub number_of : SumError → ℕ
+number_of E.NoText = 16
+number_of E.TooDeep = 17
+number_of E.OutOfRange = 18
+
 pub data Numbered : Type 0 where
   value : ℤ → Numbered
   refused : ℕ → Numbered
 
-abbrev pub numbered : Answer → Numbered
-numbered (A.Worth x) = value x
-numbered A.NoText = refused 16
-numbered A.TooDeep = refused 17
-numbered A.OutOfRange = refused 18
+abbrev pub numbered : Result ℤ SumError → Numbered
+numbered (Ok x) = value x
+numbered (Err e) = refused (number_of e)

@@ -7,4 +7,4 @@ pub returns : goal.returns
 returns c =
     let a = c.args in
     then a.line (0x72 ∷ 0x65 ∷ 0x66 ∷ 0x75 ∷ 0x73 ∷ 0x65 ∷ 0x64 ∷ blank ∷ []) (decimal a.number ++ (line_feed ∷ [])) c.push_text-word.ensures
-    (then _ (decimal a.number) (line_feed ∷ []) c.push_decimal-told.ensures c.push.ensures)
+    (then _ (decimal a.number) (line_feed ∷ []) c.push_decimal.ensures c.push.ensures)

@@ -1,31 +1,18 @@
-use native.Mathlib.Omega.{arith}
-use mathlib.Core.Path.{◌≡◌, refl, ◌∙◌}
-use Prim.Native.Nat.{ℕ, zero, suc, ◌-◌, ◌≤◌, ◌<◌}
-use native.Mathlib.Numerals.{sub-one}
-use Rattle.sum_spec.specs.declared.Value.{Value}
+use Rattle.std.proofs.Common.{◌≡◌, ℕ, suc, ◌+◌, ◌-◌, ◌<◌, ◌≤◌, arith, ◌∙◌, Option, ℤ}
 use Rattle.sum_spec.specs.Sums.{negated}
 use Rattle.sum_value.specs.Worth.{negations}
 use Rattle.sum_value.proofs.negate_times.Goals as goal
 
-one_less : (n : ℕ) (w r : Value) → 0 < n → r ≡ negated w → negations (n - 1) r ≡ negations n w
-one_less zero w r l e = absurd (omega arith)
-one_less (suc n) w r l e = rw (e, sub-one)
+one_less : (n i : ℕ) (v w : Option ℤ) → i < n → w ≡ negated v → negations (n - (i + 1)) w ≡ negations (n - i) v
+one_less n i v w l e =
+    let z : n - i ≡ suc (n - (i + 1)) = omega arith in
+    rw (z, e)
 
-none_left : (n : ℕ) (w : Value) → n ≤ 0 → w ≡ negations n w
-none_left zero w l = refl
-none_left (suc n) w l = absurd (omega arith)
+none_left : (n i : ℕ) (v : Option ℤ) → n ≤ i → v ≡ negations (n - i) v
+none_left n i v l = let z : n - i ≡ 0 = omega arith in rw z
 
-pub loop-left-init : goal.loop-left-init
-loop-left-init c = refl
-
-pub overflow_sub-left : goal.overflow_sub-left
-overflow_sub-left c = omega arith
-
-pub loop-left-smaller : goal.loop-left-smaller
-loop-left-smaller c = omega arith
-
-pub loop-left-preserved : goal.loop-left-preserved
-loop-left-preserved c = one_less c.loop-left.left c.loop-left.w c.negate-w.result c.loop-left-test.true c.negate-w.ensures ∙ c.loop-left.invariant
+pub loop-preserved : goal.loop-preserved
+loop-preserved c = one_less c.args.times c.loop.counter c.loop.value c.negate-value.result c.loop-test.true c.negate-value.ensures ∙ c.loop.invariant
 
 pub returns : goal.returns
-returns c = none_left c.loop-left.left c.loop-left.w c.loop-left-test.false ∙ c.loop-left.invariant
+returns c = none_left c.args.times c.loop.counter c.loop.value c.loop-test.false ∙ c.loop.invariant
