@@ -1,7 +1,7 @@
 -- What crosses, byte by byte: reports of the loader's answers, of the check's, of the converter's and of the lister's refusals, of sums and of cues, the result of a run, and a read instruction with each
 -- extension and kind of operand.
 -- Assumes nothing.
-use Rattle.std.proofs.Common.{◌≡◌, ℕ, true, List, [], ◌∷◌, ◌++◌, replicate, pos, negsuc, refl}
+use Rattle.std.proofs.Common.{◌≡◌, ℕ, true, List, [], ◌∷◌, ◌++◌, replicate, pos, negsuc, refl, Err, Ok}
 use Rattle.mrc_compiler.specs.declared.ast.Segment.TheVariants as G
 use Rattle.mrc_compiler.specs.declared.encoder.EncodeError.TheVariants as E
 use Rattle.mrc_compiler.specs.declared.encoder.OperandSize.TheVariants as S
@@ -15,10 +15,8 @@ use Rattle.show_file.specs.declared.Header.{Header}
 use Rattle.show_file.specs.declared.LoadError.{LoadError}
 use Rattle.show_file.specs.declared.LoadError.TheVariants as R
 use Rattle.show_file.specs.Refusals.{number_of}
-use Rattle.show_load.specs.declared.Loaded.TheVariants as L
-use Rattle.sum_spec.specs.declared.Answer.TheVariants as A
+use Rattle.sum_spec.specs.declared.SumError.TheVariants as Sum
 use Rattle.cue_compile.specs.declared.CueError.TheVariants as Q
-use Rattle.cue_compile.specs.declared.Compiled.TheVariants as C
 use Rattle.foreign_report.specs.Crossing.{u32_bytes, report_bytes}
 use Rattle.foreign_report.proofs.Cases.{span, zeros4, span_bytes, zeros12, ones4}
 use Rattle.x86_forms.specs.declared.Extension.{Extension}
@@ -40,21 +38,20 @@ use Rattle.shortest_encoder.specs.Shortest.{shortest_answer}
 use Rattle.foreign.specs.LoadShow.{response_load_error, response_loaded}
 use Rattle.foreign.specs.ConvertShow.{response_convert_error, response_converted}
 use Rattle.foreign.specs.CheckShow.{response_checked}
-use Rattle.check_spec.specs.declared.Checked.TheVariants as Ck
+use Rattle.check_spec.specs.declared.CheckError.TheVariants as Ck
 use Rattle.convert_spec.specs.declared.ConvertError.{ConvertError}
 use Rattle.convert_spec.specs.declared.ConvertError.TheVariants as Ce
-use Rattle.convert_spec.specs.declared.Converted.TheVariants as Cv
 use Rattle.convert_spec.specs.Refusals as Convert
 use Rattle.foreign.specs.ReadBytes.{operand_head, operand_values, read_bytes}
-use Rattle.desk_run.specs.declared.Ran.TheVariants as D
 use Rattle.desk_run.specs.declared.RunError.TheVariants as N
+use Rattle.desk_run.specs.Running.{halted_with}
 use Rattle.foreign.specs.RunImage.{run_number, result_after}
 
 record Rows : Type 0 where
-  image : (h : Header) → report_bytes (response_loaded (L.Image h 7000)) ≡ (0x58 ∷ 0x1B ∷ 0 ∷ 0 ∷ []) ++ (zeros4 ++ (zeros4 ++ (zeros12 ++ ones4)))
-  no_mark : report_bytes (response_loaded (L.Refused R.NoMark)) ≡ zeros12 ++ (zeros12 ++ ones4)
-  unknown_code : report_bytes (response_loaded (L.Refused (R.UnknownCode 999))) ≡ zeros12 ++ (zeros12 ++ (0xE7 ∷ 3 ∷ 0 ∷ 0 ∷ []))
-  refused_record : report_bytes (response_loaded (L.Refused (R.Record 1 (E.RelativeJumpOutOfRange span S.Byte true (negsuc 128)))))
+  image : (h : Header) → report_bytes (response_loaded (Ok (h, 7000))) ≡ (0x58 ∷ 0x1B ∷ 0 ∷ 0 ∷ []) ++ (zeros4 ++ (zeros4 ++ (zeros12 ++ ones4)))
+  no_mark : report_bytes (response_loaded (Err R.NoMark)) ≡ zeros12 ++ (zeros12 ++ ones4)
+  unknown_code : report_bytes (response_loaded (Err (R.UnknownCode 999))) ≡ zeros12 ++ (zeros12 ++ (0xE7 ∷ 3 ∷ 0 ∷ 0 ∷ []))
+  refused_record : report_bytes (response_loaded (Err (R.Record 1 (E.RelativeJumpOutOfRange span S.Byte true (negsuc 128)))))
       ≡ zeros4 ++ (span_bytes ++ ((0x7F ∷ 0xFF ∷ 0xFF ∷ 0xFF ∷ []) ++ (zeros4 ++ (zeros4 ++ (1 ∷ 0 ∷ 0 ∷ 0 ∷ [])))))
 
 rows : Rows
@@ -71,13 +68,13 @@ its_number (R.Record k e) = refl
 
 -- ---- the answers of the check of targets
 record Checks : Type 0 where
-  passes : report_bytes (response_checked (Ck.Lands 56000)) ≡ (0xC0 ∷ 0xDA ∷ 0 ∷ 0 ∷ []) ++ (zeros4 ++ (zeros4 ++ (zeros12 ++ ones4)))
-  passes_number : (response_checked (Ck.Lands 56000)).number ≡ 0
-  inside : (response_checked (Ck.Inside 999 65535 7999)).number ≡ 25
-  inside_report : report_bytes (response_checked (Ck.Inside 999 65535 7999)) ≡ (0x3F ∷ 0x1F ∷ 0 ∷ 0 ∷ []) ++ (zeros4 ++ (zeros4 ++ (0xFF ∷ 0xFF ∷ 0 ∷ 0 ∷ 0 ∷ 0 ∷ 0 ∷ 0 ∷ 0 ∷ 0 ∷ 0 ∷ 0 ∷ 0xE7 ∷ 3 ∷ 0 ∷ 0 ∷ [])))
-  outside : (response_checked (Ck.Outside 1 257)).number ≡ 25
-  outside_report : report_bytes (response_checked (Ck.Outside 1 257)) ≡ ones4 ++ (zeros4 ++ (zeros4 ++ (1 ∷ 1 ∷ 0 ∷ 0 ∷ 0 ∷ 0 ∷ 0 ∷ 0 ∷ 0 ∷ 0 ∷ 0 ∷ 0 ∷ 1 ∷ 0 ∷ 0 ∷ 0 ∷ [])))
-  of_load : report_bytes (response_checked (Ck.Refused (R.UnknownCode 999))) ≡ zeros12 ++ (zeros12 ++ (0xE7 ∷ 3 ∷ 0 ∷ 0 ∷ []))
+  passes : report_bytes (response_checked (Ok 56000)) ≡ (0xC0 ∷ 0xDA ∷ 0 ∷ 0 ∷ []) ++ (zeros4 ++ (zeros4 ++ (zeros12 ++ ones4)))
+  passes_number : (response_checked (Ok 56000)).number ≡ 0
+  inside : (response_checked (Err (Ck.Inside 999 65535 7999))).number ≡ 25
+  inside_report : report_bytes (response_checked (Err (Ck.Inside 999 65535 7999))) ≡ (0x3F ∷ 0x1F ∷ 0 ∷ 0 ∷ []) ++ (zeros4 ++ (zeros4 ++ (0xFF ∷ 0xFF ∷ 0 ∷ 0 ∷ 0 ∷ 0 ∷ 0 ∷ 0 ∷ 0 ∷ 0 ∷ 0 ∷ 0 ∷ 0xE7 ∷ 3 ∷ 0 ∷ 0 ∷ [])))
+  outside : (response_checked (Err (Ck.Outside 1 257))).number ≡ 25
+  outside_report : report_bytes (response_checked (Err (Ck.Outside 1 257))) ≡ ones4 ++ (zeros4 ++ (zeros4 ++ (1 ∷ 1 ∷ 0 ∷ 0 ∷ 0 ∷ 0 ∷ 0 ∷ 0 ∷ 0 ∷ 0 ∷ 0 ∷ 0 ∷ 1 ∷ 0 ∷ 0 ∷ 0 ∷ [])))
+  of_load : report_bytes (response_checked (Err (Ck.Load (R.UnknownCode 999)))) ≡ zeros12 ++ (zeros12 ++ (0xE7 ∷ 3 ∷ 0 ∷ 0 ∷ []))
 
 checks : Checks
 unfolding u32_bytes
@@ -85,14 +82,14 @@ checks = record { passes = refl; passes_number = refl; inside = refl; inside_rep
 
 -- ---- the converter's answers
 record Conversions : Type 0 where
-  file : report_bytes (response_converted (Cv.File 56009)) ≡ (0xC9 ∷ 0xDA ∷ 0 ∷ 0 ∷ []) ++ (zeros4 ++ (zeros4 ++ (zeros12 ++ ones4)))
-  of_load : report_bytes (response_converted (Cv.Refused (Ce.Load (R.UnknownCode 999)))) ≡ zeros12 ++ (zeros12 ++ (0xE7 ∷ 3 ∷ 0 ∷ 0 ∷ []))
-  miscounted : (response_converted (Cv.Refused (Ce.ShiftCountOutOfRange 999))).number ≡ 24
-  miscounted_report : report_bytes (response_converted (Cv.Refused (Ce.ShiftCountOutOfRange 999))) ≡ zeros12 ++ (zeros12 ++ (0xE7 ∷ 3 ∷ 0 ∷ 0 ∷ []))
-  no_record : (response_converted (Cv.Refused (Ce.NoRecordAtTarget 1))).number ≡ 25
-  no_record_report : report_bytes (response_converted (Cv.Refused (Ce.NoRecordAtTarget 1))) ≡ zeros12 ++ (zeros12 ++ (1 ∷ 0 ∷ 0 ∷ 0 ∷ []))
-  too_short : (response_converted (Cv.Refused Ce.SliceTooShort)).number ≡ 9
-  too_short_report : report_bytes (response_converted (Cv.Refused Ce.SliceTooShort)) ≡ zeros12 ++ (zeros12 ++ ones4)
+  file : report_bytes (response_converted (Ok 56009)) ≡ (0xC9 ∷ 0xDA ∷ 0 ∷ 0 ∷ []) ++ (zeros4 ++ (zeros4 ++ (zeros12 ++ ones4)))
+  of_load : report_bytes (response_converted (Err (Ce.Load (R.UnknownCode 999)))) ≡ zeros12 ++ (zeros12 ++ (0xE7 ∷ 3 ∷ 0 ∷ 0 ∷ []))
+  miscounted : (response_converted (Err (Ce.ShiftCountOutOfRange 999))).number ≡ 24
+  miscounted_report : report_bytes (response_converted (Err (Ce.ShiftCountOutOfRange 999))) ≡ zeros12 ++ (zeros12 ++ (0xE7 ∷ 3 ∷ 0 ∷ 0 ∷ []))
+  no_record : (response_converted (Err (Ce.NoRecordAtTarget 1))).number ≡ 25
+  no_record_report : report_bytes (response_converted (Err (Ce.NoRecordAtTarget 1))) ≡ zeros12 ++ (zeros12 ++ (1 ∷ 0 ∷ 0 ∷ 0 ∷ []))
+  too_short : (response_converted (Err Ce.SliceTooShort)).number ≡ 9
+  too_short_report : report_bytes (response_converted (Err Ce.SliceTooShort)) ≡ zeros12 ++ (zeros12 ++ ones4)
 
 conversions : Conversions
 unfolding u32_bytes
@@ -243,11 +240,11 @@ reads = record {
 
 -- ---- sums: the value where a refusal 5 has its, and the numbers
 record Sums : Type 0 where
-  value : report_bytes (response_answer (A.Worth (negsuc 124))) ≡ zeros12 ++ ((0x83 ∷ 0xFF ∷ 0xFF ∷ 0xFF ∷ []) ++ (zeros4 ++ (zeros4 ++ ones4)))
-  has_value : (response_answer (A.Worth (pos 125))).number ≡ 0
-  no_sum : ((response_answer A.NoText).number ≡ 16) × (report_bytes (response_answer A.NoText) ≡ zeros12 ++ (zeros12 ++ ones4))
-  too_deep : (response_answer A.TooDeep).number ≡ 17
-  out_of_range : ((response_answer A.OutOfRange).number ≡ 18) × (report_bytes (response_answer A.OutOfRange) ≡ zeros12 ++ (zeros12 ++ ones4))
+  value : report_bytes (response_answer (Ok (negsuc 124))) ≡ zeros12 ++ ((0x83 ∷ 0xFF ∷ 0xFF ∷ 0xFF ∷ []) ++ (zeros4 ++ (zeros4 ++ ones4)))
+  has_value : (response_answer (Ok (pos 125))).number ≡ 0
+  no_sum : ((response_answer (Err Sum.NoText)).number ≡ 16) × (report_bytes (response_answer (Err Sum.NoText)) ≡ zeros12 ++ (zeros12 ++ ones4))
+  too_deep : (response_answer (Err Sum.TooDeep)).number ≡ 17
+  out_of_range : ((response_answer (Err Sum.OutOfRange)).number ≡ 18) × (report_bytes (response_answer (Err Sum.OutOfRange)) ≡ zeros12 ++ (zeros12 ++ ones4))
 
 sums : Sums
 unfolding u32_bytes
@@ -255,11 +252,11 @@ sums = record { value = refl; has_value = refl; no_sum = (refl, refl); too_deep 
 
 -- ---- cues: the length, and refusals without a span or a record
 record Cues : Type 0 where
-  most : ((response_compiled (C.Length 1801)).number ≡ 0)
-      × (report_bytes (response_compiled (C.Length 1801)) ≡ (9 ∷ 7 ∷ 0 ∷ 0 ∷ []) ++ (zeros4 ++ (zeros4 ++ (zeros12 ++ ones4))))
-  no_cue_list : ((response_compiled (C.Refused Q.WrongLength)).number ≡ 19) × (report_bytes (response_compiled (C.Refused Q.WrongLength)) ≡ zeros12 ++ (zeros12 ++ ones4))
-  no_delay : ((response_compiled (C.Refused Q.NoDelay)).number ≡ 20) × (report_bytes (response_compiled (C.Refused Q.NoDelay)) ≡ zeros12 ++ (zeros12 ++ ones4))
-  too_short : ((response_compiled (C.Refused Q.ImageTooShort)).number ≡ 9) × (report_bytes (response_compiled (C.Refused Q.ImageTooShort)) ≡ zeros12 ++ (zeros12 ++ ones4))
+  most : ((response_compiled (Ok 1801)).number ≡ 0)
+      × (report_bytes (response_compiled (Ok 1801)) ≡ (9 ∷ 7 ∷ 0 ∷ 0 ∷ []) ++ (zeros4 ++ (zeros4 ++ (zeros12 ++ ones4))))
+  no_cue_list : ((response_compiled (Err Q.WrongLength)).number ≡ 19) × (report_bytes (response_compiled (Err Q.WrongLength)) ≡ zeros12 ++ (zeros12 ++ ones4))
+  no_delay : ((response_compiled (Err Q.NoDelay)).number ≡ 20) × (report_bytes (response_compiled (Err Q.NoDelay)) ≡ zeros12 ++ (zeros12 ++ ones4))
+  too_short : ((response_compiled (Err Q.ImageTooShort)).number ≡ 9) × (report_bytes (response_compiled (Err Q.ImageTooShort)) ≡ zeros12 ++ (zeros12 ++ ones4))
 
 cues : Cues
 unfolding u32_bytes
@@ -267,14 +264,14 @@ cues = record { most = (refl, refl); no_cue_list = (refl, refl); no_delay = (ref
 
 -- ---- runs: 13,107,601 instructions, the most of 200 cues, with their 400 bytes of pairs; a log of more than 2^32 bytes; the numbers; a result that is too short
 record Runs : Type 0 where
-  halted : result_after (D.Halted 13107601 400) (replicate 17 9) ≡ (0x91 ∷ 0x01 ∷ 0xC8 ∷ 0 ∷ []) ++ (zeros4 ++ ((0x90 ∷ 0x01 ∷ 0 ∷ 0 ∷ []) ++ (zeros4 ++ (9 ∷ []))))
-  long_log : result_after (D.Halted 4294967295 8589934588) (replicate 16 9) ≡ ones4 ++ (zeros4 ++ ((0xFC ∷ 0xFF ∷ 0xFF ∷ 0xFF ∷ []) ++ (1 ∷ 0 ∷ 0 ∷ 0 ∷ [])))
-  short_result : result_after (D.Halted 13107601 400) (replicate 15 9) ≡ replicate 15 9
-  refused : result_after (D.Refused N.BudgetSpent) (replicate 16 9) ≡ zeros8 ++ zeros8
-  halts : run_number (D.Halted 1 0) ≡ 0
-  not_carried_out : run_number (D.Refused N.NotCarriedOut) ≡ 21
-  budget_spent : run_number (D.Refused N.BudgetSpent) ≡ 22
-  log_too_short : run_number (D.Refused N.LogTooShort) ≡ 9
+  halted : result_after (Ok (halted_with 13107601 400)) (replicate 17 9) ≡ (0x91 ∷ 0x01 ∷ 0xC8 ∷ 0 ∷ []) ++ (zeros4 ++ ((0x90 ∷ 0x01 ∷ 0 ∷ 0 ∷ []) ++ (zeros4 ++ (9 ∷ []))))
+  long_log : result_after (Ok (halted_with 4294967295 8589934588)) (replicate 16 9) ≡ ones4 ++ (zeros4 ++ ((0xFC ∷ 0xFF ∷ 0xFF ∷ 0xFF ∷ []) ++ (1 ∷ 0 ∷ 0 ∷ 0 ∷ [])))
+  short_result : result_after (Ok (halted_with 13107601 400)) (replicate 15 9) ≡ replicate 15 9
+  refused : result_after (Err N.BudgetSpent) (replicate 16 9) ≡ zeros8 ++ zeros8
+  halts : run_number (Ok (halted_with 1 0)) ≡ 0
+  not_carried_out : run_number (Err N.NotCarriedOut) ≡ 21
+  budget_spent : run_number (Err N.BudgetSpent) ≡ 22
+  log_too_short : run_number (Err N.LogTooShort) ≡ 9
 
 runs : Runs
 unfolding u32_bytes

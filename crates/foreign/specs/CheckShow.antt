@@ -1,10 +1,10 @@
 -- What fsq_check answers: the answer of the check of targets, as a response.
 -- Definitions only.
-use Rattle.std.specs.Prelude.{ℕ, ◌%◌, pos}
+use Rattle.std.specs.Prelude.{ℕ, ◌%◌, pos, Result, Ok, Err}
 use Rattle.convert_spec.specs.declared.ConvertError.TheVariants as X
 use Rattle.convert_spec.specs.Refusals.{number_of}
-use Rattle.check_spec.specs.declared.Checked.{Checked}
-use Rattle.check_spec.specs.declared.Checked.TheVariants as C
+use Rattle.check_spec.specs.declared.CheckError.{CheckError}
+use Rattle.check_spec.specs.declared.CheckError.TheVariants as C
 use Rattle.foreign_report.specs.declared.Response.{Response}
 use Rattle.foreign_report.specs.Crossing.{no_span, no_record, response_length}
 use Rattle.foreign.specs.LoadShow.{response_load_error}
@@ -22,8 +22,8 @@ response_stray k target around = record {
 }
 
 -- 0 with the length of the image, or the refusal
-abbrev pub response_checked : Checked → Response
-response_checked (C.Lands n) = response_length n
-response_checked (C.Inside k target j) = response_stray k target (j % 4294967296)
-response_checked (C.Outside k target) = response_stray k target no_record
-response_checked (C.Refused e) = response_load_error e
+abbrev pub response_checked : Result ℕ CheckError → Response
+response_checked (Ok n) = response_length n
+response_checked (Err (C.Inside k target j)) = response_stray k target (j % 4294967296)
+response_checked (Err (C.Outside k target)) = response_stray k target no_record
+response_checked (Err (C.Load e)) = response_load_error e

@@ -1,9 +1,8 @@
 -- What fsq_convert answers: the converter's answer, as a response.
 -- Definitions only.
+use Rattle.std.specs.Prelude.{Err, Ok, Result, ℕ}
 use Rattle.convert_spec.specs.declared.ConvertError.{ConvertError}
 use Rattle.convert_spec.specs.declared.ConvertError.TheVariants as X
-use Rattle.convert_spec.specs.declared.Converted.{Converted}
-use Rattle.convert_spec.specs.declared.Converted.TheVariants as C
 use Rattle.convert_spec.specs.Refusals.{number_of}
 use Rattle.foreign_report.specs.declared.Response.{Response}
 use Rattle.foreign_report.specs.Crossing.{response_length, response_alone, of_record}
@@ -17,6 +16,6 @@ response_convert_error (X.NoRecordAtTarget k) = of_record (response_alone (numbe
 response_convert_error X.SliceTooShort = response_alone (number_of X.SliceTooShort)
 
 -- 0 with the length of the written file, or the refusal
-abbrev pub response_converted : Converted → Response
-response_converted (C.File n) = response_length n
-response_converted (C.Refused e) = response_convert_error e
+abbrev pub response_converted : Result ℕ ConvertError → Response
+response_converted (Ok n) = response_length n
+response_converted (Err e) = response_convert_error e

@@ -1,10 +1,10 @@
 -- What fsq_load answers: the loader's answer, as a response.
 -- Definitions only.
+use Rattle.std.specs.Prelude.{Err, Ok, Result, ℕ}
+use Rattle.show_file.specs.declared.Header.{Header}
 use Rattle.show_file.specs.declared.LoadError.{LoadError}
 use Rattle.show_file.specs.declared.LoadError.TheVariants as E
 use Rattle.show_file.specs.Refusals.{number_of}
-use Rattle.show_load.specs.declared.Loaded.{Loaded}
-use Rattle.show_load.specs.declared.Loaded.TheVariants as L
 use Rattle.foreign_report.specs.declared.Response.{Response}
 use Rattle.foreign_report.specs.Crossing.{response_length, response_alone, response_refusal, of_record}
 
@@ -17,6 +17,6 @@ response_load_error (E.UnknownCode k) = of_record (response_alone (number_of (E.
 response_load_error (E.Record k e) = of_record (response_refusal e) k
 
 -- 0 with the length of the image, or the refusal
-abbrev pub response_loaded : Loaded → Response
-response_loaded (L.Image h n) = response_length n
-response_loaded (L.Refused e) = response_load_error e
+abbrev pub response_loaded : Result (Header × ℕ) LoadError → Response
+response_loaded (Ok (h, n)) = response_length n
+response_loaded (Err e) = response_load_error e

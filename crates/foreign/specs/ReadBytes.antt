@@ -2,14 +2,14 @@
 -- number), width (0 none, 1 Byte, 2 Word) and the form's opcode, a byte each; the second the form's extension and the repeat; then two for each operand: kind,
 -- number and segment, a byte each, and displacement, immediate or target with a far target's segment, a word each.
 -- Definitions only.
-use Rattle.std.specs.Prelude.{ℕ, ◌+◌, ◌*◌, List, ◌++◌, length, drop, nat_le}
+use Rattle.std.specs.Prelude.{ℕ, ◌+◌, ◌*◌, List, ◌++◌, length, drop, nat_le, Ok, Err}
 use Rattle.mrc_compiler.specs.Choose.{pick}
 use Rattle.x86.specs.declared.Instruction.{Instruction}
 use Rattle.x86_forms.specs.declared.FormName.{FormName}
-use Rattle.reader.specs.declared.Decoded.{Decoded}
-use Rattle.reader.specs.declared.Decoded.TheVariants.{Whole, Nothing, More}
 pub use Rattle.fast_reader.specs.Words.{segment_number, segment_in, extension_number, head_of}
 unfoldable pub use Rattle.fast_reader.specs.Words.{operand_head, operand_values}
+use Rattle.x86.specs.Reading.{refusal_number}
+use Rattle.reader.specs.Answer.{Decoded}
 use Rattle.foreign_report.specs.Crossing.{three_bytes}
 
 abbrev pub read_length : ℕ
@@ -22,12 +22,10 @@ read_bytes m f n =
 
 -- 0, 10 or 11
 abbrev pub read_number : Decoded → ℕ
-read_number (Whole m f n) = 0
-read_number Nothing = 10
-read_number More = 11
+read_number (Ok r) = 0
+read_number (Err e) = refusal_number e
 
 -- the lent slice afterwards: its later bytes stay, and a shorter one stays whole; so does any where nothing is read
 abbrev pub read_after : Decoded → List ℕ → List ℕ
-read_after (Whole m f n) s = pick (nat_le read_length (length s)) (read_bytes m f n ++ drop read_length s) s
-read_after Nothing s = s
-read_after More s = s
+read_after (Ok r) s = pick (nat_le read_length (length s)) (read_bytes r.instruction r.form r.length ++ drop read_length s) s
+read_after (Err e) s = s

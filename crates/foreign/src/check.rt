@@ -5,7 +5,7 @@ ghost use Rattle.foreign_report.specs.Crossing.{report_after};
 ghost use Rattle.foreign.specs.CheckShow.{response_stray, response_checked};
 
 use crate::load::response_load_error;
-use check_spec::Checked;
+use check_spec::CheckError;
 use foreign_report::{NO_RECORD, Response, response_length, write_report};
 use mrc_compiler::ast::Span;
 
@@ -25,14 +25,16 @@ fn response_stray(k: usize, target: u16, around: u32) -> Response
 }
 
 // An answer of the check.
-fn response_checked(answer: Checked) -> Response
+fn response_checked(answer: Result<usize, CheckError>) -> Response
     ensures { result ≡ response_checked answer }
 {
     match answer {
-        Checked::Lands(n) => response_length(n),
-        Checked::Inside(k, target, j) => response_stray(k, target, (j % 4294967296) as u32),
-        Checked::Outside(k, target) => response_stray(k, target, NO_RECORD),
-        Checked::Refused(error) => response_load_error(error),
+        Ok(n) => response_length(n),
+        Err(CheckError::Inside(k, target, j)) => {
+            response_stray(k, target, (j % 4294967296) as u32)
+        },
+        Err(CheckError::Outside(k, target)) => response_stray(k, target, NO_RECORD),
+        Err(CheckError::Load(error)) => response_load_error(error),
     }
 }
 

@@ -5,7 +5,7 @@ ghost use Rattle.foreign_report.specs.Crossing.{report_after};
 ghost use Rattle.foreign.specs.ConvertShow.{response_convert_error, response_converted};
 
 use crate::load::response_load_error;
-use convert_spec::{ConvertError, Converted};
+use convert_spec::ConvertError;
 use foreign_report::{Response, of_record, response_alone, response_length, write_report};
 
 // A refusal of the converter.
@@ -21,12 +21,12 @@ fn response_convert_error(error: ConvertError) -> Response
 }
 
 // An answer of the converter.
-fn response_converted(answer: Converted) -> Response
+fn response_converted(answer: Result<usize, ConvertError>) -> Response
     ensures { result ≡ response_converted answer }
 {
     match answer {
-        Converted::File(n) => response_length(n),
-        Converted::Refused(error) => response_convert_error(error),
+        Ok(n) => response_length(n),
+        Err(error) => response_convert_error(error),
     }
 }
 

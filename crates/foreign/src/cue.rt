@@ -4,16 +4,16 @@ ghost use Rattle.cue_compile.specs.Compiling.{compiled, image_after};
 ghost use Rattle.foreign_report.specs.Crossing.{report_after};
 ghost use Rattle.foreign.specs.CompileCues.{response_compiled};
 
-use cue_compile::Compiled;
+use cue_compile::CueError;
 use foreign_report::{Response, response_alone, response_length, write_report};
 
 // An answer of the cue compiler.
-fn response_compiled(answer: Compiled) -> Response
+fn response_compiled(answer: Result<usize, CueError>) -> Response
     ensures { result ≡ response_compiled answer }
 {
     match answer {
-        Compiled::Length(n) => response_length(n),
-        Compiled::Refused(error) => response_alone(error.number()),
+        Ok(n) => response_length(n),
+        Err(error) => response_alone(error.number()),
     }
 }
 

@@ -4,7 +4,6 @@ ghost use Rattle.foreign_report.specs.Crossing.{report_after};
 ghost use Rattle.foreign.specs.EncodeRecord.{record_of, record_number, response_record, out_after};
 
 use foreign_report::{Response, response_alone, response_encoded, write_report};
-use mrc_compiler::encoder::Encoded;
 
 // 14 or 15 where the bytes are not a record, else 0.
 pub fn record_number(rec: &[u8]) -> u8
@@ -42,7 +41,7 @@ fn response_record(rec: &[u8], offset: u16, out: &mut [u8]) -> Response
     if fast_run::fits(packed, out.len()) {
         let n = fast_run::length_of(packed);
         fast_run::write_packed(packed, out);
-        return response_encoded(Encoded::Length(n));
+        return response_encoded(Ok(n));
     }
     response_plain(rec, offset, out)
 }

@@ -5,17 +5,15 @@ ghost use Rattle.foreign_report.specs.Crossing.{report_after};
 ghost use Rattle.foreign.specs.EvaluateText.{response_answer};
 
 use foreign_report::{Response, response_alone, response_value, write_report};
-use sum_spec::Answer;
+use sum_spec::SumError;
 
 // An answer of the evaluator.
-fn response_answer(answer: Answer) -> Response
+fn response_answer(answer: Result<i32, SumError>) -> Response
     ensures { result ≡ response_answer answer }
 {
     match answer {
-        Answer::Worth(value) => response_value(value),
-        Answer::NoText => response_alone(16),
-        Answer::TooDeep => response_alone(17),
-        Answer::OutOfRange => response_alone(18),
+        Ok(value) => response_value(value),
+        Err(error) => response_alone(error.number()),
     }
 }
 

@@ -6,15 +6,15 @@ ghost use Rattle.foreign.specs.ListRecord.{response_listed, response_listing, li
 
 use crate::encode::record_number;
 use foreign_report::{Response, response_alone, response_length, response_refusal, write_report};
-use lister::Listed;
+use mrc_compiler::encoder::EncodeError;
 
 // An answer of the lister.
-fn response_listed(listed: Listed) -> Response
+fn response_listed(listed: Result<usize, EncodeError>) -> Response
     ensures { result ≡ response_listed listed }
 {
     match listed {
-        Listed::Count(n) => response_length(n),
-        Listed::Refused(e) => response_refusal(e),
+        Ok(n) => response_length(n),
+        Err(e) => response_refusal(e),
     }
 }
 

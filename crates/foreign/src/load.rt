@@ -7,8 +7,7 @@ ghost use Rattle.foreign.specs.LoadShow.{response_load_error, response_loaded};
 use foreign_report::{
     Response, of_record, response_alone, response_length, response_refusal, write_report,
 };
-use show_file::LoadError;
-use show_load::Loaded;
+use show_file::{Header, LoadError};
 
 // A refusal of the loader.
 pub fn response_load_error(error: LoadError) -> Response
@@ -24,12 +23,12 @@ pub fn response_load_error(error: LoadError) -> Response
 }
 
 // An answer of the loader.
-fn response_loaded(answer: Loaded) -> Response
+fn response_loaded(answer: Result<(Header, usize), LoadError>) -> Response
     ensures { result ≡ response_loaded answer }
 {
     match answer {
-        Loaded::Image(_, n) => response_length(n),
-        Loaded::Refused(error) => response_load_error(error),
+        Ok((_, n)) => response_length(n),
+        Err(error) => response_load_error(error),
     }
 }
 

@@ -7,7 +7,6 @@ ghost use Rattle.foreign.specs.ReadBytes.{segment_in, extension_number, head_of,
 use fast_reader::Words;
 use foreign_report::put_three;
 use mrc_compiler::ast::Segment;
-use reader::Decoded;
 use x86::{Instruction, Operand};
 use x86_forms::{Extension, FormName};
 
@@ -130,14 +129,13 @@ pub fn fsq_read(bytes: &[u8], offset: u16, out: &mut [u8]) -> u8
     }
     let read = reader::read(bytes, offset);
     match read {
-        Decoded::Whole(insn, form, n) => {
+        Ok(reading) => {
             if out.len() < 24 {
                 return 0;
             }
-            write_read(insn, form, n, out);
+            write_read(reading.instruction, reading.form, reading.length, out);
             0
         },
-        Decoded::Nothing => 10,
-        Decoded::More => 11,
+        Err(error) => error.number(),
     }
 }

@@ -3,7 +3,6 @@ ghost use Rattle.std.specs.Prelude.{◌≡◌, length};
 ghost use Rattle.desk_run.specs.Running.{ending, answered, log_after};
 ghost use Rattle.foreign.specs.RunImage.{run_number, result_in, result_after};
 
-use desk_run::Ran;
 use foreign_report::{put_three, put_u32};
 
 // Writes the result of a run to its front: two u64, of which the count has 32 bits. A slice of less than 16 bytes stays as it was.
@@ -31,13 +30,13 @@ pub fn fsq_run(image: &[u8], budget: u32, log: &mut [u8], out: &mut [u8]) -> u8
 {
     let ran = desk_run::run(image, budget, log);
     match ran {
-        Ran::Halted(count, n) => {
-            write_result(count, n, out);
+        Ok(halted) => {
+            write_result(halted.count, halted.log_length, out);
             0
-        },
-        Ran::Refused(error) => {
+        }
+        Err(error) => {
             write_result(0, 0, out);
             error.number()
-        },
+        }
     }
 }

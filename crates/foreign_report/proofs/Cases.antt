@@ -1,5 +1,6 @@
 -- Reports of the encoder's answers, byte by byte.
 -- Assumes nothing.
+use Rattle.std.specs.Prelude.{Err, Ok}
 use mathlib.Core.Path.{◌≡◌, refl}
 use mathlib.Core.Bool.{true}
 use mathlib.Core.List.{List, [], ◌∷◌, ◌++◌}
@@ -7,7 +8,6 @@ use Prim.Native.Nat.{ℕ}
 use lib.IntN.{pos, negsuc}
 use Rattle.mrc_compiler.specs.declared.ast.Span.{Span}
 use Rattle.mrc_compiler.specs.declared.encoder.EncodeError.TheVariants as E
-use Rattle.mrc_compiler.specs.declared.encoder.Encoded.TheVariants as N
 use Rattle.mrc_compiler.specs.declared.encoder.OperandSize.TheVariants as S
 use Rattle.foreign_report.specs.Crossing.{u32_bytes, response_alone, response_encoded, report_bytes, report_after}
 
@@ -28,11 +28,11 @@ abbrev pub ones4 : List ℕ
 ones4 = 0xFF ∷ 0xFF ∷ 0xFF ∷ 0xFF ∷ []
 
 record Rows : Type 0 where
-  accepted : report_bytes (response_encoded (N.Length 7)) ≡ (7 ∷ 0 ∷ 0 ∷ 0 ∷ []) ++ (zeros4 ++ (zeros4 ++ (zeros12 ++ ones4)))
-  out_of_range : report_bytes (response_encoded (N.Refused (E.ImmediateOutOfRange span (negsuc 1) (negsuc 127) (pos 65535))))
+  accepted : report_bytes (response_encoded (Ok 7)) ≡ (7 ∷ 0 ∷ 0 ∷ 0 ∷ []) ++ (zeros4 ++ (zeros4 ++ (zeros12 ++ ones4)))
+  out_of_range : report_bytes (response_encoded (Err (E.ImmediateOutOfRange span (negsuc 1) (negsuc 127) (pos 65535))))
       ≡ zeros4 ++ (span_bytes ++ (0xFE ∷ 0xFF ∷ 0xFF ∷ 0xFF ∷ 0x80 ∷ 0xFF ∷ 0xFF ∷ 0xFF ∷ 0xFF ∷ 0xFF ∷ 0 ∷ 0 ∷ ones4))
-  distance : report_bytes (response_encoded (N.Refused (E.RelativeJumpOutOfRange span S.Byte true (pos 128)))) ≡ zeros4 ++ (span_bytes ++ ((128 ∷ 0 ∷ 0 ∷ 0 ∷ []) ++ (zeros4 ++ (zeros4 ++ ones4))))
-  repeat : (response_encoded (N.Refused (E.InvalidRepeat span))).number ≡ 23
+  distance : report_bytes (response_encoded (Err (E.RelativeJumpOutOfRange span S.Byte true (pos 128)))) ≡ zeros4 ++ (span_bytes ++ ((128 ∷ 0 ∷ 0 ∷ 0 ∷ []) ++ (zeros4 ++ (zeros4 ++ ones4))))
+  repeat : (response_encoded (Err (E.InvalidRepeat span))).number ≡ 23
   number_alone : report_bytes (response_alone 15) ≡ zeros12 ++ (zeros12 ++ ones4)
   short_report : report_after (response_alone 15) span_bytes ≡ span_bytes
 

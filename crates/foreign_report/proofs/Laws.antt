@@ -1,22 +1,26 @@
 -- Laws of the report's bytes.
 -- Assumes nothing.
-use mathlib.Core.Path.{◌≡◌, refl}
+use mathlib.Core.Path.{◌≡◌, refl, sym, ap, ◌∙◌}
 use mathlib.Core.List.{List, [], ◌∷◌, ◌++◌}
 use Prim.Native.Nat.{ℕ, suc, ◌+◌, ◌≤◌}
 use native.Mathlib.Omega.{arith}
-use lib.ListN.{length, drop, set}
-use lib.Seq.{sets, sets-eq}
+use lib.ListN.{length, take, drop, set}
+use Rattle.std.proofs.Common.{append_assoc}
+use lib.Seq.{sets, sets-eq, drop-drop}
+use borrow.Rule.Slice.PartMut.{put_mid}
 use Rattle.foreign_report.specs.declared.Response.{Response}
 use Rattle.foreign_report.specs.Crossing.{u32_bytes, bits, three_bytes, report_after}
 use borrow.Author.Tests.{le-leb}
 
 -- ---- bytes one behind the other
-pub four_set : (s : List ℕ) (at a b c d : ℕ) → set (set (set (set s at a) (at + 1) b) (at + 2) c) (at + 3) d ≡ sets s at (a ∷ b ∷ c ∷ d ∷ [])
-four_set s at a b c d =
-    let e : at + 1 ≡ suc at = omega arith in
-    let f : at + 2 ≡ suc (suc at) = omega arith in
-    let g : at + 3 ≡ suc (suc (suc at)) = omega arith in
-    rw (e, f, g)
+part_put : (s bs : List ℕ) (at k : ℕ) → k ≡ length bs → at + length bs ≤ length s → put_mid at k s bs ≡ sets s at bs
+part_put s bs at k f h = rw (f, sets-eq bs s at h, drop-drop (length bs) at s) (sym (append_assoc (take at s) bs (drop (at + length bs) s)))
+
+pub word_put : (s bs : List ℕ) (at k n : ℕ) → k ≡ 4 → at + 4 ≤ length s → bs ≡ u32_bytes n → put_mid at k s bs ≡ sets s at (u32_bytes n)
+unfolding u32_bytes
+word_put s bs at k n f h e =
+    let l : length bs ≡ 4 = ap (λ xs. length xs) e in
+    part_put s bs at k (f ∙ sym l) (omega (arith, l, h)) ∙ ap (λ xs. sets s at xs) e
 
 pub sets-sets : (s : List ℕ) (at next : ℕ) (xs ys : List ℕ) → next ≡ at + length xs → sets (sets s at xs) next ys ≡ sets s at (xs ++ ys)
 sets-sets s at next [] ys e =

@@ -1,10 +1,8 @@
 -- What crosses to a program in another language: an answer's number, and a report of 28 bytes, little-endian: length, span start and end (u32), value, low, high (i32), record (u32).
 -- Definitions only.
-use Rattle.std.specs.Prelude.{ℕ, ◌/◌, ◌%◌, List, [], ◌∷◌, ◌++◌, leb, ℤ, pos, length, drop}
+use Rattle.std.specs.Prelude.{ℕ, ◌/◌, ◌%◌, List, [], ◌∷◌, ◌++◌, leb, ℤ, pos, length, drop, Err, Ok, Result}
 use Rattle.mrc_compiler.specs.declared.ast.Span.{Span}
 use Rattle.mrc_compiler.specs.declared.encoder.EncodeError.{EncodeError}
-use Rattle.mrc_compiler.specs.declared.encoder.Encoded.{Encoded}
-use Rattle.mrc_compiler.specs.declared.encoder.Encoded.TheVariants as N
 use Rattle.mrc_compiler.specs.Choose.{pick}
 use Rattle.mrc_compiler.specs.Values.{mod_z}
 use Rattle.mrc_compiler.specs.Refusals.{Values, none, outside, distance, Report, report_of}
@@ -93,9 +91,9 @@ response_value z = record {
 }
 
 -- 0 with the number of bytes, or the refusal
-abbrev pub response_encoded : Encoded → Response
-response_encoded (N.Length n) = response_length n
-response_encoded (N.Refused e) = response_refusal e
+abbrev pub response_encoded : Result ℕ EncodeError → Response
+response_encoded (Ok n) = response_length n
+response_encoded (Err e) = response_refusal e
 
 -- a response about record k of a file
 abbrev pub of_record : Response → ℕ → Response

@@ -6,13 +6,13 @@ ghost use Rattle.std.proofs.lemmas.List.Edits.{sets};
 ghost use Rattle.foreign_report.specs.Crossing.{u32_bytes, three_bytes, response_length, response_value, response_alone, response_span, response_refusal, response_encoded, of_record, report_after};
 
 use mrc_compiler::ast::Span;
-use mrc_compiler::encoder::{EncodeError, Encoded};
+use mrc_compiler::encoder::EncodeError;
 
 // The record of a report that names none.
 pub const NO_RECORD: u32 = 4294967295;
 
 // What an answer tells: its number, 0 where nothing is refused, and the report's fields.
-#[derive(Clone, Copy)]
+#[derive(Clone, Copy, Debug, PartialEq, Eq)]
 pub struct Response {
     pub number: u8,
     pub length: u32,
@@ -25,19 +25,22 @@ pub struct Response {
     pub record: u32,
 }
 
+// Number 0, and a report with nothing in it.
+const NOTHING: Response = Response {
+    number: 0,
+    length: 0,
+    span: Span { start: 0, end: 0 },
+    value: 0,
+    low: 0,
+    high: 0,
+    record: NO_RECORD,
+};
+
 // A number with no report.
 pub fn response_alone(number: u8) -> Response
     ensures { result ≡ response_alone number }
 {
-    Response {
-        number,
-        length: 0,
-        span: Span { start: 0, end: 0 },
-        value: 0,
-        low: 0,
-        high: 0,
-        record: NO_RECORD,
-    }
+    Response { number, ..NOTHING }
 }
 
 // 0, with a length.
@@ -45,13 +48,8 @@ pub fn response_length(n: usize) -> Response
     ensures { result ≡ response_length n }
 {
     Response {
-        number: 0,
         length: (n % 4294967296) as u32,
-        span: Span { start: 0, end: 0 },
-        value: 0,
-        low: 0,
-        high: 0,
-        record: NO_RECORD,
+        ..NOTHING
     }
 }
 
@@ -59,15 +57,7 @@ pub fn response_length(n: usize) -> Response
 pub fn response_value(value: i32) -> Response
     ensures { result ≡ response_value value }
 {
-    Response {
-        number: 0,
-        length: 0,
-        span: Span { start: 0, end: 0 },
-        value,
-        low: 0,
-        high: 0,
-        record: NO_RECORD,
-    }
+    Response { value, ..NOTHING }
 }
 
 // A refusal of the encoder.
@@ -81,21 +71,17 @@ pub fn response_refusal(e: EncodeError) -> Response
         EncodeError::InvalidOperandSize(span) => response_span(4, span),
         EncodeError::ImmediateOutOfRange(span, value, low, high) => Response {
             number: 5,
-            length: 0,
             span,
             value,
             low,
             high,
-            record: NO_RECORD,
+            ..NOTHING
         },
         EncodeError::RelativeJumpOutOfRange(span, _, _, distance) => Response {
             number: 6,
-            length: 0,
             span,
             value: distance,
-            low: 0,
-            high: 0,
-            record: NO_RECORD,
+            ..NOTHING
         },
         EncodeError::NotSupported(span) => response_span(7, span),
         EncodeError::NotWellFormed(span) => response_span(8, span),
@@ -110,22 +96,18 @@ fn response_span(number: u8, span: Span) -> Response
 {
     Response {
         number,
-        length: 0,
         span,
-        value: 0,
-        low: 0,
-        high: 0,
-        record: NO_RECORD,
+        ..NOTHING
     }
 }
 
 // An answer of the encoder.
-pub fn response_encoded(encoded: Encoded) -> Response
+pub fn response_encoded(encoded: Result<usize, EncodeError>) -> Response
     ensures { result ≡ response_encoded encoded }
 {
     match encoded {
-        Encoded::Length(n) => response_length(n),
-        Encoded::Refused(e) => response_refusal(e),
+        Ok(n) => response_length(n),
+        Err(e) => response_refusal(e),
     }
 }
 
@@ -133,20 +115,9 @@ pub fn response_encoded(encoded: Encoded) -> Response
 pub fn of_record(response: Response, k: usize) -> Response
     ensures { result ≡ of_record response k }
 {
-    let number = response.number;
-    let length = response.length;
-    let span = response.span;
-    let value = response.value;
-    let low = response.low;
-    let high = response.high;
     Response {
-        number,
-        length,
-        span,
-        value,
-        low,
-        high,
         record: (k % 4294967296) as u32,
+        ..response
     }
 }
 
@@ -155,10 +126,7 @@ pub fn put_u32(report: &mut [u8], at: usize, n: u32)
     requires { at + 4 ≤ length report.old }
     ensures { report.new ≡ sets report.old at (u32_bytes n) }
 {
-    report[at] = (n % 256) as u8;
-    report[at + 1] = (n / 256 % 256) as u8;
-    report[at + 2] = (n / 65536 % 256) as u8;
-    report[at + 3] = (n / 16777216 % 256) as u8;
+    report[at..at + 4].copy_from_slice(&n.to_le_bytes());
 }
 
 // Writes three of them.

@@ -1,7 +1,7 @@
 use Rattle.foreign.proofs.list.response_listed.Goals as goal
 
-pub returns-in-Count : goal.returns-in-Count
-returns-in-Count c = rw c.in-Count.is c.response_length.ensures
+pub returns-in-Ok : goal.returns-in-Ok
+returns-in-Ok c = rw c.in-Ok.is c.response_length.ensures
 
-pub returns-in-Refused : goal.returns-in-Refused
-returns-in-Refused c = rw c.in-Refused.is c.response_refusal.ensures
+pub returns-in-Err : goal.returns-in-Err
+returns-in-Err c = rw c.in-Err.is c.response_refusal.ensures

@@ -1,7 +1,7 @@
 use Rattle.foreign.proofs.load.response_loaded.Goals as goal
 
-pub returns-in-Image : goal.returns-in-Image
-returns-in-Image c = rw c.in-Image.is c.response_length.ensures
+pub returns-in-Ok : goal.returns-in-Ok
+returns-in-Ok c = rw c.in-Ok.is c.response_length.ensures
 
-pub returns-in-Refused : goal.returns-in-Refused
-returns-in-Refused c = rw c.in-Refused.is c.response_load_error.ensures
+pub returns-in-Err : goal.returns-in-Err
+returns-in-Err c = rw c.in-Err.is c.response_load_error.ensures

@@ -16,20 +16,15 @@ returns-then-words-gt0 c =
 -- by the reader
 pub returns-then-out-lt24-2 : goal.returns-then-out-lt24-2
 returns-then-out-lt24-2 c =
-    let e = sym c.read-read.ensures ∙ c.in-Whole.is in
+    let e = sym c.read-read.ensures ∙ c.in-Ok.is in
     record { value = rw e; out_after = rw (e, lt-leb _ _ c.if-out-lt24-2.true) }
 
 pub returns-else-out-lt24-2 : goal.returns-else-out-lt24-2
 returns-else-out-lt24-2 c =
-    let e = sym c.read-read.ensures ∙ c.in-Whole.is in
+    let e = sym c.read-read.ensures ∙ c.in-Ok.is in
     record { value = rw e; out_after = rw (e, le-leb _ _ c.if-out-lt24-2.false) c.write_read.ensures }
 
-pub returns-in-Nothing : goal.returns-in-Nothing
-returns-in-Nothing c =
-    let e = sym c.read-read.ensures ∙ c.in-Nothing.is in
-    record { value = rw e; out_after = rw e }
-
-pub returns-in-More : goal.returns-in-More
-returns-in-More c =
-    let e = sym c.read-read.ensures ∙ c.in-More.is in
-    record { value = rw e; out_after = rw e }
+pub returns-in-Err : goal.returns-in-Err
+returns-in-Err c =
+    let e = sym c.read-read.ensures ∙ c.in-Err.is in
+    record { value = rw e c.number.ensures; out_after = rw e }

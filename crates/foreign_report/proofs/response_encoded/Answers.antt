@@ -1,7 +1,0 @@
-use Rattle.foreign_report.proofs.response_encoded.Goals as goal
-
-pub returns-in-Length : goal.returns-in-Length
-returns-in-Length c = rw c.in-Length.is c.response_length.ensures
-
-pub returns-in-Refused : goal.returns-in-Refused
-returns-in-Refused c = rw c.in-Refused.is c.response_refusal.ensures
