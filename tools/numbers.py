@@ -79,7 +79,7 @@ def source():
         operations='mrc_compiler/src/operations', data='mrc_compiler/src/encoder/mod', ast='mrc_compiler/src/ast', record='show_record/src/lib', file='show_file/src/lib',
         report='foreign_report/src/lib', read='foreign/src/read', encode='foreign/src/encode', load='foreign/src/load', operands='x86/src/operands', reader='reader/src/lib',
         slots='read_slots/src/lib', run='encode_run/src/lib', lister='lister/src/lib', entries='list_entries/src/lib', form='text_form/src/lib', ground='encode_form/src/lib',
-        text='show_text/src/lib', x86='x86/src/lib', evaluate='foreign/src/evaluate', sum='sum_evaluate/src/lib', answer='sum_text/src/lib',
+        text='show_text/src/lib', x86='x86/src/lib', evaluate='foreign/src/evaluate', sum='sum_evaluate/src/lib', sums='sum_spec/src/lib', answer='sum_text/src/lib',
         program='fsqsum/src/main', cues='cue_compile/src/lib', cue='foreign/src/cue', compiler='fsqcue/src/main',
         desk='desk_run/src/lib', result='foreign/src/run', desk_text='desk_text/src/lib', simulator='fsqrun/src/main',
         convert='convert_spec/src/lib', converted='foreign/src/convert', converter='show_convert/src/lib', fsq186='fsq186/src/main').items()}
@@ -92,31 +92,33 @@ def source():
     # Operations.
     text = code['operations']
     s['operation'] = text.part(r'pub enum Operation \{').order(r'(\w+),', OPERATIONS)
-    twice('operation', text, text.numbers(r'Operation::(\w+) => (\d+),', OPERATIONS), s['operation'])
-    twice('operation', text, {n: int(v) for v, n in text.all(r'(\d+) => Operation::(\w+),', OPERATIONS)}, s['operation'])
-    known = code['record'].number(r'if (\d+) <= bytes\[OPERATION\]')
+    twice('operation', text, text.part(r'static OPERATIONS: \[Operation; \d+\] = \[', r'\];').order(r'Operation::(\w+),', OPERATIONS), s['operation'])
+    twice('operation', text, {'count': text.number(r'static OPERATIONS: \[Operation; (\d+)\]')}, {'count': len(s['operation'])})
+    known = code['record'].number(r'bytes\[OPERATION\] < (\d+)')
     twice('operation', code['record'], {'count': known}, {'count': len(s['operation'])})
 
-    # Kinds, sizes and jump kinds, and the first code that is unknown.
-    for enum, rattle, count, fields in (('kind', 'OperandKind', 4, ['KIND']), ('size', 'OperandSize', 3, ['SIZE', 'DISPLACEMENT_SIZE']), ('jump', 'JumpKind', 4, ['JUMP_KIND'])):
-        name = lambda n: 'NO_KIND' if (enum, n) == ('jump', 'None') else snake(n)
-        s[enum] = {name(n): int(v) for v, n in code['record'].all(rf'(\d+) => {rattle}::(\w+),', count)}
-        twice(enum, code['data'], code['data'].part(rf'pub enum {rattle} \{{').order(r'(\w+),', count, name), s[enum])
+    # Kinds, sizes and jump kinds, and that their readers say which codes of an operand are known. A jump kind's code is one more than its variant's place: 0 is none.
+    for enum, rattle, count, reader, fields in (('kind', 'OperandKind', 4, 'kind_of', ['KIND']), ('size', 'OperandSize', 3, 'size_of', ['SIZE', 'DISPLACEMENT_SIZE']), ('jump', 'JumpKind', 4, 'jump_kind_of', ['JUMP_KIND'])):
+        none = {'NO_KIND': code['record'].number(r'(\d+) => Some\(None\),')} if enum == 'jump' else {}
+        variant, past = (rf'Some\(Some\({rattle}::(\w+)\)\)', 1) if none else (rf'Some\({rattle}::(\w+)\)', 0)
+        s[enum] = none | {snake(n): int(v) for v, n in code['record'].all(rf'(\d+) => {variant},', count - past)}
+        places = code['data'].part(rf'pub enum {rattle} \{{').order(r'(\w+),', count - past, snake)
+        twice(enum, code['data'], none | {name: place + past for name, place in places.items()}, s[enum])
         for field in fields:
-            known = code['record'].one(rf'(\d+) <= bytes\[at \+ {field}\]|bytes\[at \+ {field}\] < (\d+)')
-            twice(enum, code['record'], {f'first unknown of {field}': known and int(''.join(known))}, {f'first unknown of {field}': count})
-    twice('size', code['operands'], code['operands'].numbers(r'OperandSize::(\w+) => (\d+),', 3, snake), s['size'])
+            code['record'].one(rf'{reader}\(bytes\[at \+ {field}\]\)\s*\.is_some\(\)')
+    code['operands'].one(r'pub fn size_number\(size: OperandSize\) -> u8\s*ensures [^\n]*\s*\{\s*(size as u8)\s*\}')
 
     # Refusals: the encoder's, the loader's, the reader's, the evaluator's, the cue compiler's, the desk's, the converter's; then where they cross.
     s['answer'] = {'DONE': 0}
     s['answer'] |= code['file'].numbers(r'EncodeError::(\w+)\([_, ]*\) => (\d+),', 10, snake)
-    s['answer'] |= {'NOT_AN_INSTRUCTION': code['reader'].number(r'Decoded::Nothing => Refusal::Is\((\d+)\)'), 'NOT_COMPLETE': code['reader'].number(r'Decoded::More => Refusal::Is\((\d+)\)')}
+    s['answer'] |= code['x86'].numbers(r'ReadError::(\w+) => (\d+),', 2, snake)
     s['answer'] |= code['file'].numbers(r'LoadError::(\w+)(?:\(_\))? => (\d+),', 4, snake)
-    # The evaluator's have their numbers in a definition; the text of fsqsum and the library have them in code.
+    # The evaluator's are one function of its error, which the library and the text of fsqsum call.
     named = lambda n: {'NoText': 'NOT_A_SUM', 'OutOfRange': 'VALUE_OUT_OF_RANGE'}.get(n, snake(n))
-    s['answer'] |= sums.numbers(r'\nnumbered A\.(\w+) = refused (\d+)', 3, named)
-    printed = code['answer'].numbers(r'Answer::(\w+) => push_refused\(line, (\d+)\),', 3, named)
-    twice('refusal', code['answer'], printed, {name: s['answer'].get(name) for name in printed})
+    s['answer'] |= sums.numbers(r'\nnumber_of E\.(\w+) = (\d+)', 3, named)
+    summed = code['sums'].numbers(r'SumError::(\w+) => (\d+),', 3, named)
+    twice('refusal', code['sums'], summed, {name: s['answer'].get(name) for name in summed})
+    code['answer'].one(r'push_refused\(line, usize::from\(error\.number\(\)\)\)')
     # The cue compiler's are one function of its error, which the library and fsqcue call; a short image has the encoder's number.
     compiled = code['cues'].numbers(r'CueError::(\w+) => (\d+),', 3, lambda n: {'WrongLength': 'NOT_A_CUE_LIST', 'ImageTooShort': 'SLICE_TOO_SHORT'}.get(n, snake(n)))
     s['answer'] = compiled | s['answer']
@@ -136,16 +138,17 @@ def source():
     crossing = code['report'].numbers(r'EncodeError::(\w+)\(span\) => response_span\((\d+), span\)', 8, snake)
     crossing |= code['report'].numbers(r'EncodeError::(\w+)\(span, .*\) => Response \{\s*number: (\d+),', 2, snake)
     crossing |= code['load'].numbers(r'LoadError::(\w+)(?:\(k\))? => (?:of_record\()?response_alone\((\d+)\)', 4, snake)
-    crossing |= code['evaluate'].numbers(r'Answer::(\w+) => response_alone\((\d+)\),', 3, named)
-    code['cue'].one(r'Compiled::Refused\(error\) => response_alone\(error\.number\(\)\)')
+    code['evaluate'].one(r'Err\(error\) => response_alone\(error\.number\(\)\)')
+    code['cue'].one(r'Err\(error\) => response_alone\(error\.number\(\)\)')
     code['compiler'].one(r'eprintln!\(rt; "refused \{\}", error\.number\(\)\)')
-    code['result'].one(r'Ran::Refused\(error\) => \{\s*write_result\(0, 0, out\);\s*error\.number\(\)')
+    code['result'].one(r'Err\(error\) => \{\s*write_result\(0, 0, out\);\s*error\.number\(\)')
     code['desk_text'].one(r'push_decimal\(word, error\.number\(\) as usize\)')
-    crossing = compiled | ran | crossing
+    crossing = compiled | ran | summed | crossing
     converted = code['converted'].numbers(r'ConvertError::(\w+)(?:\(k\))? => (?:of_record\()?response_alone\((\d+)\)', 3, snake)
     twice('refusal', code['converted'], converted, {name: s['answer'].get(name) for name in converted})
     crossing = converted | crossing
-    crossing |= {'NOT_AN_INSTRUCTION': code['read'].number(r'Decoded::Nothing => (\d+),'), 'NOT_COMPLETE': code['read'].number(r'Decoded::More => (\d+),')}
+    code['read'].one(r'Err\(error\) => (error\.number\(\)),')
+    crossing |= code['x86'].numbers(r'ReadError::(\w+) => (\d+),', 2, snake)
     twice('refusal', Text('crates/foreign', ''), {'DONE': 0} | crossing, s['answer'])
     record = dict(zip(('UNKNOWN_CODE', 'WRONG_LENGTH'), map(int, code['encode'].part(r'pub fn record_number\(').one(r'\}\s*return (\d+);\s*\}\s*(\d+)$') or ())))
     twice('refusal', code['encode'], record, {name: s['answer'].get(name) for name in record})
@@ -165,35 +168,34 @@ def source():
     s['record'] |= {'SPAN_START_AT': values['SPAN'], 'SPAN_END_AT': values['SPAN'] + after}
     # The header says that what stands behind the repeat stands a byte further, and is first of it the span.
     twice('record', code['record'], {'REPEAT': values['REPEAT'], 'LONG_RECORD_LENGTH': values['LONG_RECORD_LENGTH']}, {'REPEAT': values['SPAN'], 'LONG_RECORD_LENGTH': values['RECORD_LENGTH'] + 1})
-    s['repeat'] = dict(zip(('REPEAT_REPNE', 'REPEAT_REP'), (int(v, 0) for v in code['x86'].part(r'pub fn is_repeat\(').all(r'b == (0x\w\w)', 2)))) | {'REPEAT_NONE': 0}
+    s['repeat'] = dict(zip(('REPEAT_REPNE', 'REPEAT_REP'), (int(v, 0) for v in code['x86'].part(r'pub fn is_repeat\(').one(r'matches!\(b, (0x\w\w) \| (0x\w\w)\)') or ()))) | {'REPEAT_NONE': 0}
 
     # The header of a file, its limits, and all lengths.
     text = code['file']
     s['header'] = {f'{name.upper()}_AT': at for name, at in text.numbers(r'let (\w+) = u16_at\(file, (\d+)\);', 3, lambda n: f'HEADER_{n}').items()} | {'HEADER_MARK_AT': 0}
-    s['mark'] = bytes(int(v, 0) for v in text.all(r'byte_at\(file, [0-2]\) [!=]= (0x\w\w)', 3))
-    entries, string = code['lister'].number(r'let mut keys: \[u64; (\d+)\]'), code['run'].number(r'pub bytes: \[u8; (\d+)\]')
-    entry, most = code['entries'].number(r'let at = (\d+) \* n;'), text.number(r'const MOST_RECORDS: u16 = (\d+);')
-    s['version'] = {int(n): (int(fewest), int(highest)) for n, fewest, highest in text.part(r'fn counts_of\(').all(r'(\d+) => Counts::Between\((\d+), (\d+)\),', VERSIONS)}
+    s['mark'] = (text.one(r'starts_with\(b"(\w{3})"\)') or '').encode()
+    entries, string = code['lister'].number(r'let mut keys: \[Option<u64>; (\d+)\]'), code['run'].number(r'pub bytes: \[u8; (\d+)\]')
+    entry, most = code['entries'].number(r'put_entry\(&mut out\[(\d+) \* n\.\.\], key\)'), text.number(r'const MOST_RECORDS: u16 = (\d+);')
+    s['version'] = {int(n): (int(fewest), int(highest)) for n, fewest, highest in text.part(r'fn counts_of\(').all(r'(\d+) => \((\d+), (\d+)\),', VERSIONS)}
     repeat = text.part(r'fn record_length\(').number(r'if version == (\d+) \{\s*show_record::LONG_RECORD_LENGTH')
     short, long = sorted(s['version'].keys() - {repeat})
     s['limit'] = {'MOST_RECORDS': most, 'SHORT_RECORDS': s['version'][short][1], 'MOST_ENTRIES': entries, 'FILE_VERSION': short, 'LONG_VERSION': long, 'REPEAT_VERSION': repeat,
         'MOST_DEPTH': sums.number(r'\nmost_depth = (\d+)')}
-    for asked in (r'if depth <= (\d+) ', r'sum\(text, 0, (\d+)\)'):
-        twice('limit', code['sum'], {'MOST_DEPTH': code['sum'].number(asked)}, {'MOST_DEPTH': s['limit']['MOST_DEPTH']})
+    twice('limit', code['sum'], {'MOST_DEPTH': code['sum'].number(r'const MOST_DEPTH: usize = (\d+);')}, {'MOST_DEPTH': s['limit']['MOST_DEPTH']})
     limits = Text('crates/cue_compile/specs/Cues.antt')
     cues = code['cues'].numbers(r'const (\w+): usize = (\d+);', 4)
     s['limit']['MOST_CUES'] = cues.get('MOST_CUES')
     twice('limit', limits, {'MOST_CUES': limits.number(r'\nmost_cues = (\d+)')}, {'MOST_CUES': s['limit']['MOST_CUES']})
     # A cue's fields where they are read; its delay has the two bytes at its front.
-    s['cue_field'] = code['cues'].numbers(r'(port|mask): cues\[at \+ (\d)\],', 2, lambda n: f'CUE_{n.upper()}_AT')
-    s['cue_field'] |= {'CUE_DELAY_AT': 0 if code['cues'].one(r'let low = cues\[at\];\s*let high = cues\[at \+ 1\];') else None}
+    s['cue_field'] = code['cues'].numbers(r'(port|mask): bytes\[(\d)\],', 2, lambda n: f'CUE_{n.upper()}_AT')
+    s['cue_field'] |= {'CUE_DELAY_AT': 0 if code['cues'].one(r'delay: u16::from_le_bytes\(\[bytes\[0\], bytes\[1\]\]\),') else None}
     # Without repeats a count is of one version: so the header says both by SHORT_RECORDS, which is the text programs' limit too.
     twice('version', text, s['version'], {short: (0, s['limit']['SHORT_RECORDS']), long: (s['limit']['SHORT_RECORDS'] + 1, most), repeat: (0, most)})
     s['record bytes'] = {version: values['LONG_RECORD_LENGTH' if version == repeat else 'RECORD_LENGTH'] for version in s['version']}
     s['text'] = code['text'].numbers(r'const (TEXT_RECORDS|MOST_TEXT|MOST_FORMS): \w+ = (\d+);', 3)
     twice('text', code['text'], {'TEXT_RECORDS': s['text'].get('TEXT_RECORDS')}, {'TEXT_RECORDS': s['limit']['SHORT_RECORDS']})
     s['text']['MOST_ANSWER'] = code['answer'].number(r'pub const MOST_ANSWER: usize = (\d+);')
-    twice('text', code['program'], {'MOST_ANSWER': code['program'].number(r'let mut out = \[0; (\d+)\];')}, {'MOST_ANSWER': s['text']['MOST_ANSWER']})
+    twice('text', code['program'], {'MOST_ANSWER': code['program'].number(r'print_answer\(rt, line, &mut \[0; (\d+)\]\)')}, {'MOST_ANSWER': s['text']['MOST_ANSWER']})
     header = text.number(r'const HEADER_LENGTH: usize = (\d+);')
     # The words of a reading are written in two places: off the bytes, and by the reader.
     reading = sorted(map(int, code['read'].all(r'if out\.len\(\) < (\d+) ', 2))) or [None]
@@ -205,7 +207,7 @@ def source():
     s['length'] |= {'CUE_LENGTH': cues['CUE_LENGTH'], 'CUE_CODE_LENGTH': cues['CUE_CODE'], 'CUE_IMAGE_LENGTH': code['compiler'].number(r'let mut image = \[0; (\d+)\];')}
     twice('length', code['compiler'], {'CUE_IMAGE_LENGTH': s['length']['CUE_IMAGE_LENGTH']}, {'CUE_IMAGE_LENGTH': cues['CUE_CODE'] * cues['MOST_CUES'] + cues['HALT_CODE']})
     # A run's result: two numbers of eight bytes; what a run reaches, and the log of fsqrun, with the text of a full one.
-    s['length'] |= {'RUN_RESULT_LENGTH': code['result'].number(r'if out\.len\(\) < (\d+) '), 'REACH_LENGTH': code['desk'].number(r'if size < (\d+) ')}
+    s['length'] |= {'RUN_RESULT_LENGTH': code['result'].number(r'if out\.len\(\) < (\d+) '), 'REACH_LENGTH': code['desk'].number(r'const REACH: usize = (\d+);')}
     log = code['desk_text'].number(r'if (\d+) < room ')
     each, last = map(int, code['desk_text'].one(r'if out\.len\(\) < (\d+) \* room \+ (\d+) ') or (0, 0))
     twice('length', code['simulator'], {'text': code['simulator'].number(r'let mut out = \[0; (\d+)\];')}, {'text': each * log + last})
@@ -258,11 +260,13 @@ def source():
 
     # Registers, segments and bases: those of a word are 8 more in the header's enum, where a record has them modulo 8.
     text = code['ast']
-    s['register'] = text.numbers(r'ByteRegister::(\w+) => (\d+),', 8, str.upper)
-    s['register'] |= {name: 8 + value for name, value in text.numbers(r'WordRegister::(\w+) => (\d+),', 8, str.upper).items()}
-    s['segment'] = text.numbers(r'Segment::(\w+) => (\d+),', 4)
+    # Each is the place of its variant: `encoding` is `self as u8`.
+    text.all(r'self as u8\n', 4)
+    s['register'] = text.part(r'pub enum ByteRegister \{').order(r'(\w+),', 8, str.upper)
+    s['register'] |= {name: 8 + value for name, value in text.part(r'pub enum WordRegister \{').order(r'(\w+),', 8, str.upper).items()}
+    s['segment'] = text.part(r'pub enum Segment \{').order(r'(\w+),', 4)
     twice('segment', code['read'], code['read'].numbers(r'Segment::(\w+) => (\d+),', 4), s['segment'])
-    s['base'] = text.numbers(r'IndirectEncoding::(\w+) => (\d+),', 8, lambda n: 'BASE_' + snake(n))
+    s['base'] = text.part(r'pub enum IndirectEncoding \{').order(r'(\w+),', 8, lambda n: 'BASE_' + snake(n))
     s['base']['BASE_NONE'] = code['slots'].number(r'Operand::Memory\((\d+), word_at')
     s['prefix'] = code['data'].number(r'(0x\w\w) \+ seg\.encoding\(\) \* 8')
     return s

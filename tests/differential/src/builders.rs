@@ -7,6 +7,7 @@ use crate::operations::Operation;
 
 const HEAD: &str = "-- What the Rust's own builders make: each row is a call of ours, and the fields that 000 gives it. tests/differential/run builders writes this file.
 -- Assumes nothing.
+use Rattle.std.specs.Prelude.{None, Some, Option}
 use mathlib.Core.Path.{◌≡◌, refl}
 use mathlib.Core.List.{[], ◌∷◌}
 use Prim.Native.Nat.{ℕ}
@@ -18,8 +19,6 @@ use Rattle.mrc_compiler.specs.declared.ast.Register.TheVariants as R
 use Rattle.mrc_compiler.specs.declared.ast.Segment.TheVariants as G
 use Rattle.mrc_compiler.specs.declared.ast.DataSize.TheVariants as D
 use Rattle.mrc_compiler.specs.declared.ast.IndirectEncoding.TheVariants as I
-use Rattle.mrc_compiler.specs.declared.ast.OptionDataSize.TheVariants as OD
-use Rattle.mrc_compiler.specs.declared.ast.OptionSegment.TheVariants as OG
 use Rattle.mrc_compiler.specs.declared.operations.Operation.{Operation}
 use Rattle.mrc_compiler.specs.declared.operations.Operation.TheVariants as Op
 use Rattle.mrc_compiler.specs.declared.encoder.OperandKind.{OperandKind}
@@ -35,7 +34,7 @@ use Rattle.mrc_compiler.specs.Builders.{size_from_some, immediate_operand, far_o
 
 module _ (s : Span) where
   -- kind, size, prefix, displacement size, jump kind, mode, r/m, immediate, displacement: the order of a show file's record
-  abbrev operand : OperandKind → OperandSize → ℕ → OperandSize → JumpKind → ℕ → ℕ → ℤ → ℤ → OperandData
+  abbrev operand : OperandKind → OperandSize → ℕ → OperandSize → Option JumpKind → ℕ → ℕ → ℤ → ℤ → OperandData
   operand kind size prefix length jump mode rm imm displacement = record {
     span = s;
     size = size;
@@ -89,10 +88,10 @@ pub fn print() {
         rows.operand(format!("segment_{}", name.to_lowercase()), format!("segment_operand s (segment G.{name})"), made);
     }
 
-    let sizes = || [("OD.None", None), ("(OD.Some D.Byte)", Some(DataSize::Byte)), ("(OD.Some D.Word)", Some(DataSize::Word))];
+    let sizes = || [("None", None), ("(Some D.Byte)", Some(DataSize::Byte)), ("(Some D.Word)", Some(DataSize::Word))];
     let segments = || {
-        let some = named!(Segment: ES CS SS DS).map(|(name, variant)| (format!("(OG.Some G.{name})"), Some(variant)));
-        std::iter::once(("OG.None".to_string(), None)).chain(some)
+        let some = named!(Segment: ES CS SS DS).map(|(name, variant)| (format!("(Some G.{name})"), Some(variant)));
+        std::iter::once(("None".to_string(), None)).chain(some)
     };
     for (i, (seg, seg_override)) in segments().enumerate() {
         let address = [0, 4660, 65535, -1, -32768][i];
@@ -156,10 +155,10 @@ fn fields(made: &OperandData) -> String {
         OperandKind::Mem => "K.Mem",
     };
     let jump = match made.jmp_kind {
-        None => "J.None",
-        Some(JumpKind::Far) => "J.Far",
-        Some(JumpKind::Near) => "J.Near",
-        Some(JumpKind::Short) => "J.Short",
+        None => "None",
+        Some(JumpKind::Far) => "(Some J.Far)",
+        Some(JumpKind::Near) => "(Some J.Near)",
+        Some(JumpKind::Short) => "(Some J.Short)",
     };
     let sizes = [made.size, made.displacement_size].map(|size| match size {
         OperandSize::Unspecified => "S.Unspecified",
