@@ -56,10 +56,14 @@ fn answer_lines(rt: &(impl Input + Print + Eprint + AllocGlobal)) -> Result<(), 
 }
 
 fn main(rt: HostRuntime) {
-    input::run_alone(
-        &rt,
+    if !input::called_alone(
         &rt.stderr(),
+        input::word_count(&rt),
         b"usage: fsqsum < TEXTS\n",
-        || answer_lines(&rt),
-    );
+    ) {
+        return;
+    }
+    if let Err(failure) = answer_lines(&rt) {
+        let _ = eprintln!(rt; "{failure}");
+    }
 }

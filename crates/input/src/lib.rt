@@ -1,7 +1,7 @@
 // How a program of ours is called, and what it reads and prints: no argument, its input on standard input, and its answer on standard output.
 #![tactic(auto)]
 
-ghost use Rattle.std.specs.Prelude.{◌≡◌, ◌<◌, ◌≤◌, leb, length, take, IfOk};
+ghost use Rattle.std.specs.Prelude.{◌≡◌, ◌<◌, ◌≤◌, leb, length, take, IfOk, IsErr};
 ghost use Rattle.std.specs.Io.{ReadsAtMost};
 ghost use Rattle.std.specs.Io.KnownBytes.{Consumes, IsAtEnd};
 
@@ -47,31 +47,14 @@ pub fn called_alone(errors: &impl Print, words: usize, usage: &[u8]) -> bool
     false
 }
 
-// Runs a program that is called without an argument, and says on standard error how it is called where it has one, and what it could not do.
-// No clause says what it prints: std says of no output what it holds.
-pub fn run_alone<Work: FnOnce() -> Result<(), Failure>>(
-    rt: &(impl Env + Eprint),
-    errors: &impl Print,
-    usage: &[u8],
-    work: Work,
-)
-    requires { Work.IsAlwaysCallable work }
-{
-    if !called_alone(errors, word_count(rt), usage) {
-        return;
-    }
-    if let Err(failure) = work() {
-        let _ = eprintln!(rt; "{failure}");
-    }
-}
-
-// Prints the text that stands at the front of out, where it has been written there.
+// Prints the text that stands at the front of out, where it has been written there; else the answer is an error. What an output holds then, std says of none.
 pub fn print_front<E: Drop>(
     rt: &impl Print,
     written: Result<usize, E>,
     out: &[u8],
 ) -> io::Result<()>
     requires { IfOk written (λ n. n ≤ length out.now) }
+    ensures { IsErr written → IsErr result }
 {
     match written {
         Ok(n) => rt.write_all(&out[..n]),
