@@ -19,10 +19,10 @@ pub struct Machine {
 #[derive(Clone, Copy, Debug, PartialEq, Eq)]
 pub enum Action {
     // MOV of an immediate to a word register.
-    MoveWord(u8, u16),
+    MoveWord(u16, u16),
 
     // The same to a byte register.
-    MoveByte(u8, u8),
+    MoveByte(u16, u8),
 
     // LOOP to a target.
     Loop(u16),
@@ -63,10 +63,10 @@ pub fn action_of(m: Instruction) -> Option<Action>
 {
     match (m.operation, m.width, m.first, m.second) {
         (Operation::MOV, OperandSize::Word, Operand::Register(n), Operand::Immediate(v)) => {
-            Some(Action::MoveWord(n, v))
+            Some(Action::MoveWord(n as u16, v))
         }
         (Operation::MOV, OperandSize::Byte, Operand::Register(n), Operand::Immediate(v)) => {
-            Some(Action::MoveByte(n, (v % 256) as u8))
+            Some(Action::MoveByte(n as u16, (v % 256) as u8))
         }
         (Operation::LOOP, _, Operand::Near(t), _) => Some(Action::Loop(t)),
         (Operation::JMP, _, Operand::Near(t), _) => Some(Action::Jump(t)),
@@ -78,13 +78,13 @@ pub fn action_of(m: Instruction) -> Option<Action>
     }
 }
 
-fn word_in(registers: [u16; 8], n: u8) -> u16
+fn word_in(registers: [u16; 8], n: u16) -> u16
     ensures { result ≡ word_in registers n }
 {
     registers.get(n as usize).copied().unwrap_or(0)
 }
 
-fn with_word(mut registers: [u16; 8], n: u8, v: u16) -> [u16; 8]
+fn with_word(mut registers: [u16; 8], n: u16, v: u16) -> [u16; 8]
     ensures { result ≡ with_word registers n v }
 {
     if n < 8 {
@@ -93,7 +93,7 @@ fn with_word(mut registers: [u16; 8], n: u8, v: u16) -> [u16; 8]
     registers
 }
 
-fn with_byte(registers: [u16; 8], n: u8, v: u8) -> [u16; 8]
+fn with_byte(registers: [u16; 8], n: u16, v: u8) -> [u16; 8]
     ensures { result ≡ with_byte registers n v }
 {
     if n < 4 {
