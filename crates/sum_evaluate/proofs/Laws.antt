@@ -11,6 +11,7 @@ use lib.ListN.{length, take, drop, get_or}
 use lib.Seq.{take-length}
 use lib.IntN.{pos, neg_ℤ}
 use borrow.Author.Tests.{lt-leb, leb-true, leb-false}
+use Rattle.std.proofs.Common.{add-one}
 use Rattle.sum_spec.specs.Sums.{sum_depth, Digit, digit_number, digit_text, digits_text, Sum, product, plus, less, factor, times, over, Factor, digits, minus, bracket, sum_value, factor_value, decimal_from, decimal, kept, sum_of, difference_of, product_of, quotient_of, reads, no_text}
 use Rattle.sum_spec.specs.Reading.{open_left, Token, digit, plus_sign, minus_sign, star, slash, opens, closes, other, digit_at, token_of, whole, in_bracket, first, plus_then, less_then, Left, begin, times_then, over_then, Closed, close_factor, closed_sum, Place, due, behind, stuck, next, read_from}
 use Rattle.sum_spec.proofs.Tokens.{View, is_open, is_close, view, digit_number_lem}
@@ -18,7 +19,7 @@ use Rattle.sum_spec.proofs.Complete.{Ends, can_go_on, factor_read, then_plus, th
 use Rattle.sum_spec.proofs.Sound.{stuck_reads, never, digits_append}
 use Rattle.sum_shape.proofs.Same.{opens_deeper}
 use Rattle.sum_value.specs.Worth.{negations}
-use Rattle.sum_evaluate.specs.Parts.{most_number, numeral_value, is_term_sign, is_digit_sign, is_minus_sign, isnt, ends_digits, ends_signs, ends_sum, NumeralTo, signs_then, SignsTo, FactorTo, ProductTo, SumTo}
+use Rattle.sum_evaluate.specs.Parts.{most_number, numeral_value, is_term_sign, is_digit_sign, is_minus_sign, isnt, ends_digits, ends_signs, ends_sum, IsRest, NumeralTo, signs_then, SignsTo, FactorTo, ProductTo, SumTo}
 
 -- ---- the byte at the front, and the rest, as a slice pattern takes it
 pub byte_and_rest : (s : List ℕ) (c : ℕ) → 1 ≤ length s → get_or s 0 0 ≡ c → s ≡ c ∷ take (length s - 1) (drop 1 s)
@@ -29,11 +30,24 @@ pub no_byte : (s : List ℕ) → length s < 1 → s ≡ []
 no_byte [] l = refl
 no_byte (b ∷ s) l = absurd (omega arith)
 
+-- ---- the rest of a text
+-- behind a byte
+past : {s : List ℕ} (c : ℕ) (r : List ℕ) → s ≡ c ∷ r → IsRest s r
+past c r e = record { front = c ∷ []; text_is = e }
+
+-- the rest of a rest
+further : {s r q : List ℕ} → IsRest s r → IsRest r q → IsRest s q
+further {q = q} x y = record {
+  front = x.front ++ y.front;
+  text_is = x.text_is ∙ ap (λ (t : List ℕ). x.front ++ t) y.text_is ∙ sym (append_assoc x.front y.front q);
+}
+
 -- ---- one more factor
 module _ (text rest after behind_it : List ℕ) (room : ℕ) (v w : Option ℤ) (so_far : ProductTo text room v rest) (more : FactorTo after room w behind_it) where
   pub one_times : rest ≡ 0x2A ∷ after → ProductTo text room (product_of v w) behind_it
   one_times e = record {
     within = omega (arith, so_far.within, more.within, ap length e);
+    rest_is = further so_far.rest_is (further (past _ after e) more.rest_is);
     stands = λ b t d h.
         let p = so_far.stands b t d h in
         let g : read_from (due (times_then p.0 b)) after ≡ reads t = rw e at p.2 in
@@ -44,6 +58,7 @@ module _ (text rest after behind_it : List ℕ) (room : ℕ) (v w : Option ℤ) 
   pub one_over : rest ≡ 0x2F ∷ after → ProductTo text room (quotient_of v w) behind_it
   one_over e = record {
     within = omega (arith, so_far.within, more.within, ap length e);
+    rest_is = further so_far.rest_is (further (past _ after e) more.rest_is);
     stands = λ b t d h.
         let p = so_far.stands b t d h in
         let g : read_from (due (over_then p.0 b)) after ≡ reads t = rw e at p.2 in
@@ -54,6 +69,7 @@ module _ (text rest after behind_it : List ℕ) (room : ℕ) (v w : Option ℤ) 
 pub a_factor : (text : List ℕ) (room : ℕ) (v : Option ℤ) (rest : List ℕ) → FactorTo text room v rest → ProductTo text room v rest
 a_factor text room v rest f = record {
   within = f.within;
+  rest_is = f.rest_is;
   stands = λ b t d h. let x = f.stands (begin b) t d h in (factor x.0, x.1, x.2);
 }
 
@@ -62,6 +78,7 @@ module _ (text rest after behind_it : List ℕ) (room : ℕ) (v w : Option ℤ) 
   pub one_plus : rest ≡ 0x2B ∷ after → SumTo text room (sum_of v w) behind_it
   one_plus e = record {
     within = omega (arith, so_far.within, more.within, ap length e);
+    rest_is = further so_far.rest_is (further (past _ after e) more.rest_is);
     stands = λ a t d h.
         let s = so_far.stands a t d h in
         let g : read_from (due (begin (plus_then s.0 a))) after ≡ reads t = sym (then_plus s.0 a after) ∙ (rw e at s.2) in
@@ -72,6 +89,7 @@ module _ (text rest after behind_it : List ℕ) (room : ℕ) (v w : Option ℤ) 
   pub one_less : rest ≡ 0x2D ∷ after → SumTo text room (difference_of v w) behind_it
   one_less e = record {
     within = omega (arith, so_far.within, more.within, ap length e);
+    rest_is = further so_far.rest_is (further (past _ after e) more.rest_is);
     stands = λ a t d h.
         let s = so_far.stands a t d h in
         let g : read_from (due (begin (less_then s.0 a))) after ≡ reads t = sym (then_less s.0 a after) ∙ (rw e at s.2) in
@@ -82,6 +100,7 @@ module _ (text rest after behind_it : List ℕ) (room : ℕ) (v w : Option ℤ) 
 pub a_product : (text : List ℕ) (room : ℕ) (v : Option ℤ) (rest : List ℕ) → ProductTo text room v rest → SumTo text room v rest
 a_product text room v rest f = record {
   within = f.within;
+  rest_is = f.rest_is;
   stands = λ a t d h. let x = f.stands (first a) t d h in (product x.0, x.1, x.2);
 }
 
@@ -127,6 +146,14 @@ whole_ends s (c ∷ r) t e h = go (token_of c) e h
     go other e h = never (sym (stuck_reads r) ∙ h)
 
 -- ---- minus signs
+-- one more
+pub one_sign : (text : List ℕ) (n : ℕ) (rest after : List ℕ) → SignsTo text n rest → rest ≡ 0x2D ∷ after → SignsTo text (n + 1) after
+one_sign text n rest after so_far there = record {
+  within = omega (arith, so_far.within, ap length there);
+  rest_is = further so_far.rest_is (past _ after there);
+  stands = λ k. rw add-one (so_far.stands k ∙ ap (read_from (due (signs_then n k))) there);
+}
+
 abbrev minuses : ℕ → Factor → Factor
 minuses zero f = f
 minuses (suc n) f = minuses n (minus f)
@@ -222,6 +249,7 @@ module _ (text : List ℕ) (room m : ℕ) (rest : List ℕ) (signs : SignsTo tex
   pub no_factor : rest ≡ [] → FactorTo text room None rest
   no_factor e = record {
     within = omega (arith, signs.within);
+    rest_is = signs.rest_is;
     stands = λ k t d h. never (sym (ap (read_from (due (signs_then m k))) e) ∙ sym (signs.stands k) ∙ h);
   }
 
@@ -260,6 +288,7 @@ module _ (text : List ℕ) (room m : ℕ) (rest : List ℕ) (signs : SignsTo tex
         → FactorTo text room (numeral_value m n) behind_it
     number_factor n behind_it number stops not_open no_minus = record {
       within = omega (arith, signs.within, number.within);
+      rest_is = further signs.rest_is (record { front = digits_text number.number; text_is = number.text_is });
       stands = λ k t d h. digits_factor n behind_it number.number not_open no_minus number.text_is number.value_is stops k t (sym (signs.stands k) ∙ h);
     }
 
@@ -271,6 +300,7 @@ module _ (text : List ℕ) (room m : ℕ) (rest : List ℕ) (signs : SignsTo tex
     pub no_room : room ≡ 0 → FactorTo text room None rest
     no_room none = record {
       within = omega (arith, signs.within);
+      rest_is = signs.rest_is;
       stands = λ k t d h.
           let deeper = opens_deeper (signs_then m k) after t (bracket_there k t h) in
           absurd (omega (arith, deeper, open_signs m k));
@@ -285,9 +315,14 @@ module _ (text : List ℕ) (room m : ℕ) (rest : List ℕ) (signs : SignsTo tex
           let z = closes_bracket (signs_then m k) s.0 behind_it t stops s.2 in
           (s.0, s.1, z.0, z.1, z.2)
 
+      -- what stands behind the sum in the bracket
+      inside_is : IsRest text behind_it
+      inside_is = further signs.rest_is (further (past _ after there) inner.rest_is)
+
       pub bracket_factor : (c : ℕ) (r : List ℕ) → behind_it ≡ c ∷ r → FactorTo text room (negations m w) r
       bracket_factor c r le = record {
         within = omega (arith, signs.within, inner.within, ap length there, ap length le);
+        rest_is = further inside_is (past c r le);
         stands = λ k t d h.
             let x = inside k t d h in
             let same : x.2 ≡ r = tail_same x.3 le in (
@@ -303,6 +338,7 @@ module _ (text : List ℕ) (room m : ℕ) (rest : List ℕ) (signs : SignsTo tex
       pub bracket_open : behind_it ≡ [] → FactorTo text room (negations m w) behind_it
       bracket_open le = record {
         within = omega (arith, signs.within, inner.within, ap length there);
+        rest_is = inside_is;
         stands = λ k t d h. absurd (clash (sym le ∙ (inside k t d h).3));
       }
         where

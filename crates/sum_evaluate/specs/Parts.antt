@@ -76,6 +76,11 @@ abbrev pub ends_sum : List ℕ → Bool
 ends_sum s = ends is_term_sign s
 
 -- ---- what stands at the front of a text, and the rest behind it
+-- the text is a front, and then the rest
+pub record IsRest (text rest : List ℕ) : Type 0 where
+  pub front : List ℕ
+  pub text_is : text ≡ front ++ rest
+
 -- digits, of the number n
 pub record NumeralTo (text : List ℕ) (n : ℕ) (rest : List ℕ) : Type 0 where
   pub within : length rest ≤ length text
@@ -90,22 +95,26 @@ signs_then (suc n) k = minus_then (signs_then n k)
 
 pub record SignsTo (text : List ℕ) (n : ℕ) (rest : List ℕ) : Type 0 where
   pub within : n + length rest ≡ length text
+  pub rest_is : IsRest text rest
   pub stands : (k : Left) → read_from (due k) text ≡ read_from (due (signs_then n k)) rest
 
 -- a factor of a text that reads as t, its value v; t is no deeper than the brackets that are open and those for which there is room
 pub record FactorTo (text : List ℕ) (room : ℕ) (v : Option ℤ) (rest : List ℕ) : Type 0 where
   pub within : length rest ≤ length text
+  pub rest_is : IsRest text rest
   pub stands : (k : Left) (t : Sum) → sum_depth t ≤ open_left k + room → read_from (due k) text ≡ reads t
       → (f : Factor) × (v ≡ factor_value f) × (read_from (behind (close_factor k f)) rest ≡ reads t)
 
 -- a product
 pub record ProductTo (text : List ℕ) (room : ℕ) (v : Option ℤ) (rest : List ℕ) : Type 0 where
   pub within : length rest ≤ length text
+  pub rest_is : IsRest text rest
   pub stands : (b : Before) (t : Sum) → sum_depth t ≤ open_before b + room → read_from (due (begin b)) text ≡ reads t
       → (p : Product) × (v ≡ product_value p) × (read_from (behind (record { before = b; done = p })) rest ≡ reads t)
 
 -- a sum
 pub record SumTo (text : List ℕ) (room : ℕ) (v : Option ℤ) (rest : List ℕ) : Type 0 where
   pub within : length rest ≤ length text
+  pub rest_is : IsRest text rest
   pub stands : (a : Around) (t : Sum) → sum_depth t ≤ open_around a + room → read_from (due (begin (first a))) text ≡ reads t
       → (s : Sum) × (v ≡ sum_value s) × (read_from (behind (closed_sum a s)) rest ≡ reads t)
