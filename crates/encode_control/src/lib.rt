@@ -29,7 +29,7 @@ pub fn encode_group_ret_retn_retf(insn: &InstructionData) -> Result<Decision, No
         return Ok(encode_lines::plain(Line::Ret));
     }
     let [dst, _] = &insn.opers;
-    Ok(encode_lines::plain(ret_form(dst.kind)?))
+    encode_lines::without_size(ret_form(dst.kind))
 }
 
 // Through a register or memory: near, and no Byte; Far and Short are refused as the last two say.
@@ -75,7 +75,7 @@ pub fn encode_group_call(insn: &InstructionData) -> Result<Decision, NoForm>
     ensures { result ≡ decision_in G.Call insn.now.num_opers (dst insn.now) (src insn.now) }
 {
     let [dst, _] = &insn.opers;
-    Ok(encode_lines::plain(call_form(dst)?))
+    encode_lines::without_size(call_form(dst))
 }
 
 fn jmp_form(dst: &OperandData) -> Result<Line, NoForm>
@@ -100,7 +100,7 @@ pub fn encode_group_jmp(insn: &InstructionData) -> Result<Decision, NoForm>
     ensures { result ≡ decision_in G.Jmp insn.now.num_opers (dst insn.now) (src insn.now) }
 {
     let [dst, _] = &insn.opers;
-    Ok(encode_lines::plain(jmp_form(dst)?))
+    encode_lines::without_size(jmp_form(dst))
 }
 
 // A distance byte, of no kind or Short; else refused.
@@ -117,14 +117,14 @@ pub fn encode_group_jcc(insn: &InstructionData) -> Result<Decision, NoForm>
     ensures { result ≡ decision_in G.Jcc insn.now.num_opers (dst insn.now) (src insn.now) }
 {
     let [dst, _] = &insn.opers;
-    Ok(encode_lines::plain(short_form(dst, NoForm::INVALID_FIRST)?))
+    encode_lines::without_size(short_form(dst, NoForm::INVALID_FIRST))
 }
 
 pub fn encode_group_loopc(insn: &InstructionData) -> Result<Decision, NoForm>
     ensures { result ≡ decision_in G.Loopc insn.now.num_opers (dst insn.now) (src insn.now) }
 {
     let [dst, _] = &insn.opers;
-    Ok(encode_lines::plain(short_form(dst, NoForm::INVALID_OPERANDS)?))
+    encode_lines::without_size(short_form(dst, NoForm::INVALID_OPERANDS))
 }
 
 pub fn encode_group_no_operands(insn: &InstructionData) -> Result<Decision, NoForm>
@@ -152,7 +152,7 @@ pub fn encode_group_int(insn: &InstructionData) -> Result<Decision, NoForm>
     ensures { result ≡ decision_in G.Int insn.now.num_opers (dst insn.now) (src insn.now) }
 {
     let [dst, _] = &insn.opers;
-    Ok(encode_lines::plain(int_form(dst.kind)?))
+    encode_lines::without_size(int_form(dst.kind))
 }
 
 pub fn encode_group_aam(insn: &InstructionData) -> Result<Decision, NoForm>

@@ -42,7 +42,7 @@ pub fn decide(group: Group, insn: InstructionData) -> Result<Decision, NoForm>
         Group::Xlat => encode_transfer::encode_group_xlat(&insn),
         Group::In => encode_transfer::encode_group_in(&insn),
         Group::Out => encode_transfer::encode_group_out(&insn),
-        Group::Unsupported => Err(NoForm::NOT_SUPPORTED),
+        Group::Unsupported => encode_lines::without_size(Err(NoForm::NOT_SUPPORTED)),
     }
 }
 

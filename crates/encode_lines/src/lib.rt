@@ -2,7 +2,8 @@
 #![tactic(auto)]
 
 ghost use Rattle.std.specs.Prelude.{◌≡◌, ◌+◌, ◌*◌, ◌%◌, ◌≤◌};
-ghost use Rattle.encode_lines.specs.Lines.{bit, immediate, one_code, two_codes, line_codes, plain, planned};
+ghost use Rattle.mrc_compiler.specs.declared.ast.DataSize.TheVariants as Z;
+ghost use Rattle.encode_lines.specs.Lines.{bit, immediate, one_code, two_codes, line_codes, decision, plain, planned};
 
 use mrc_compiler::ast::DataSize;
 use mrc_compiler::encoder::generate::{Code, Codes, FIRST_OPER_DST, FIRST_OPER_SRC, NoForm};
@@ -101,6 +102,13 @@ pub fn plain(line: Line) -> Decision
         line,
         size: DataSize::Word,
     }
+}
+
+// A line without a size, or why there is none.
+pub fn without_size(line: Result<Line, NoForm>) -> Result<Decision, NoForm>
+    ensures { result ≡ decision line Z.Word }
+{
+    Ok(plain(line?))
 }
 
 // 0 for a byte, 1 for a word: the low bit of most opcodes.

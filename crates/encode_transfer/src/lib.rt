@@ -88,7 +88,7 @@ pub fn encode_group_push(insn: &InstructionData) -> Result<Decision, NoForm>
     ensures { result ≡ decision_in G.Push insn.now.num_opers (dst insn.now) (src insn.now) }
 {
     let [dst, _] = &insn.opers;
-    Ok(encode_lines::plain(push_form(dst)?))
+    encode_lines::without_size(push_form(dst))
 }
 
 // A word; never CS.
@@ -111,7 +111,7 @@ pub fn encode_group_pop(insn: &InstructionData) -> Result<Decision, NoForm>
     ensures { result ≡ decision_in G.Pop insn.now.num_opers (dst insn.now) (src insn.now) }
 {
     let [dst, _] = &insn.opers;
-    Ok(encode_lines::plain(pop_form(dst)?))
+    encode_lines::without_size(pop_form(dst))
 }
 
 // A word register and memory.
@@ -130,7 +130,7 @@ pub fn encode_group_lea(insn: &InstructionData) -> Result<Decision, NoForm>
     ensures { result ≡ decision_in G.Lea insn.now.num_opers (dst insn.now) (src insn.now) }
 {
     let [dst, src] = &insn.opers;
-    Ok(encode_lines::plain(load_form(dst, src)?))
+    encode_lines::without_size(load_form(dst, src))
 }
 
 pub fn encode_group_les_lds(insn: &InstructionData) -> Result<Decision, NoForm>
@@ -153,7 +153,7 @@ pub fn encode_group_xlat(insn: &InstructionData) -> Result<Decision, NoForm>
     ensures { result ≡ decision_in G.Xlat insn.now.num_opers (dst insn.now) (src insn.now) }
 {
     let [dst, _] = &insn.opers;
-    Ok(encode_lines::plain(xlat_form(dst)?))
+    encode_lines::without_size(xlat_form(dst))
 }
 
 // IN and OUT: the accumulator, and a port that is an immediate or DX.
