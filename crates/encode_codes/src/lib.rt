@@ -25,7 +25,8 @@ fn emit_field(emitter: &mut ByteRun, field: Option<Field>)
     }
 }
 
-// Emits one code, or nothing where it is refused.
+// Emits one code, or nothing where it is refused. Inlined at both of its places, so that the fields are not put together first.
+#[inline(always)]
 fn emit_code(
     emitter: &mut ByteRun,
     insn: InstructionData,

@@ -184,6 +184,7 @@ fn other_of(insn: InstructionData, k: u8) -> OperandData
 }
 
 // What one code emits, or why it is refused.
+#[inline(always)]
 pub fn fields_of(insn: InstructionData, offset: u16, code: Code) -> Result<Fields, EncodeError>
     ensures { answer_of result ≡ code_answer code insn offset }
 {
