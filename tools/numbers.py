@@ -195,7 +195,7 @@ def source():
     s['text'] = code['text'].numbers(r'const (TEXT_RECORDS|MOST_TEXT|MOST_FORMS): \w+ = (\d+);', 3)
     twice('text', code['text'], {'TEXT_RECORDS': s['text'].get('TEXT_RECORDS')}, {'TEXT_RECORDS': s['limit']['SHORT_RECORDS']})
     s['text']['MOST_ANSWER'] = code['answer'].number(r'pub const MOST_ANSWER: usize = (\d+);')
-    twice('text', code['program'], {'MOST_ANSWER': code['program'].number(r'print_answer\(rt, line, &mut \[0; (\d+)\]\)')}, {'MOST_ANSWER': s['text']['MOST_ANSWER']})
+    twice('text', code['program'], {'MOST_ANSWER': code['program'].number(r'let mut out = \[0; (\d+)\];')}, {'MOST_ANSWER': s['text']['MOST_ANSWER']})
     header = text.number(r'const HEADER_LENGTH: usize = (\d+);')
     # The words of a reading are written in two places: off the bytes, and by the reader.
     reading = sorted(map(int, code['read'].all(r'if out\.len\(\) < (\d+) ', 2))) or [None]
