@@ -127,6 +127,7 @@ fn loop_to(target: u16, next: u16, registers: [u16; 8]) -> Stepped
 }
 
 // Carries out an action; next is the offset past its instruction. The kinds of action are closed: a match is the table of what each does.
+#[inline(always)]
 fn perform(action: Option<Action>, next: u16, m: Machine) -> Stepped
     ensures { result ≡ performed action next m }
 {
@@ -187,7 +188,8 @@ fn fetched_as(action: Option<Action>, n: usize) -> Fetched
     }
 }
 
-// Reads the instruction at an offset.
+// Reads the instruction at an offset. Never inlined: a run's loops hold the rest of a step, and seldom come here.
+#[inline(never)]
 fn fetch(image: &[u8], ip: u16) -> Fetched
     ensures { result ≡ fetched_at image.now ip }
 {
@@ -216,13 +218,15 @@ fn known_at(image: &[u8], ip: u16, known: Known) -> Known
     Known { at, fetched }
 }
 
+#[inline(always)]
 fn carry_out(fetched: Fetched, m: Machine) -> Stepped
     ensures { result ≡ performed fetched.action ((m.ip + fetched.length) % 65536) m }
 {
     perform(fetched.action, m.ip.wrapping_add(fetched.length), m)
 }
 
-// One step: the instruction at IP.
+// One step: the instruction at IP. Inlined with what it does, so that the machine and what is known are not copied from step to step.
+#[inline(always)]
 pub fn step(image: &[u8], m: Machine, known: Known) -> Done
     requires { IsKnown image.now known }
     ensures stepped_value { result.stepped ≡ step_of image.now m }
