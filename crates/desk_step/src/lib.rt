@@ -188,7 +188,7 @@ fn fetched_as(action: Option<Action>, n: usize) -> Fetched
     }
 }
 
-// Reads the instruction at an offset. Never inlined: a run's loops hold the rest of a step, and seldom come here.
+// Reads the instruction at an offset. Never inlined: a run's loops hold the rest of a step, and come here only for another instruction than the last.
 #[inline(never)]
 fn fetch(image: &[u8], ip: u16) -> Fetched
     ensures { result ≡ fetched_at image.now ip }
@@ -225,7 +225,7 @@ fn carry_out(fetched: Fetched, m: Machine) -> Stepped
     perform(fetched.action, m.ip.wrapping_add(fetched.length), m)
 }
 
-// One step: the instruction at IP. Inlined with what it does, so that the machine and what is known are not copied from step to step.
+// One step: the instruction at IP. Inlined with what it does: the machine and what is known would else go to it and back by way of memory.
 #[inline(always)]
 pub fn step(image: &[u8], m: Machine, known: Known) -> Done
     requires { IsKnown image.now known }
